@@ -1,0 +1,4 @@
+pub mod Bank
+pub mod Refusals
+pub mod Sweeps
+pub mod Laws

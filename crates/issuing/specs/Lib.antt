@@ -1,0 +1,3 @@
+pub mod Causes
+pub mod Transaction
+pub mod Token

@@ -1,0 +1,7 @@
+pub mod Pairs
+pub mod Refusals
+pub mod Store
+pub mod Places
+pub mod Shadow
+pub mod Notes
+pub mod Laws
