@@ -24,12 +24,12 @@ use Rattle.banks.specs.Laws.{BankLaws}
 use Rattle.banks.proofs.Joined.{at-some, at-none}
 use Rattle.banks.proofs.Turns.{set-nth}
 
-nth-set-same : {X : Type 0} (xs : List X) (i : ℕ) (x y : X) → nth xs i ≡ Some x → nth (set xs i y) i ≡ Some y
+pub nth-set-same : {X : Type 0} (xs : List X) (i : ℕ) (x y : X) → nth xs i ≡ Some x → nth (set xs i y) i ≡ Some y
 nth-set-same [] i x y e = grind arith
 nth-set-same (z ∷ xs) zero x y e = refl
 nth-set-same (z ∷ xs) (suc i) x y e = nth-set-same xs i x y e
 
-nth-set-other : {X : Type 0} (xs : List X) (i j : ℕ) (y : X) → j ≢ i → nth (set xs i y) j ≡ nth xs j
+pub nth-set-other : {X : Type 0} (xs : List X) (i j : ℕ) (y : X) → j ≢ i → nth (set xs i y) j ≡ nth xs j
 nth-set-other [] i j y n = refl
 nth-set-other (z ∷ xs) zero zero y n = absurd (n refl)
 nth-set-other (z ∷ xs) zero (suc j) y n = refl

@@ -94,7 +94,7 @@ open-here i k [] m e = grind arith
 open-here zero k (x ∷ ms) m e = let same : x ≡ m = cc in ap (λ y. open-from k (y ∷ ms)) same
 open-here (suc i) k (x ∷ ms) m e = open-here i k ms m e
 
-within-none : (i : ℕ) (ms : BankModel) → i < length ms → nth ms i ≡ None → ⊥
+pub within-none : (i : ℕ) (ms : BankModel) → i < length ms → nth ms i ≡ None → ⊥
 within-none i [] h e = omega arith
 within-none zero (m ∷ ms) h e = grind arith
 within-none (suc i) (m ∷ ms) h e = within-none i ms (omega arith) e

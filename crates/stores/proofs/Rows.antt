@@ -14,7 +14,7 @@ use Rattle.std.specs.declared.option.Option.{Option}
 use Rattle.std.specs.declared.option.Option.the-variants.{Some, None}
 use Rattle.stores.specs.declared.types.Pair.{Pair}
 use Rattle.stores.specs.Pairs.{Pairs, pair, find, insert, erase, Ascending}
-use Rattle.stores.specs.Places.{Places, holds, is-free, later, first, contents, distinct, trial-of, in-limit}
+use Rattle.stores.specs.Places.{Places, holds, is-free, later, first, contents, distinct, no-room, trial-of, in-limit}
 use Rattle.stores.specs.Store.{WithinCapacity, SoundTrial, Sound, change-limit}
 use Rattle.stores.proofs.Maps.{find-insert, find-erase-other, insert-same, insert-comm, erase-insert, erase-insert-other, length-insert, length-insert-new, ascending-insert}
 
@@ -206,6 +206,25 @@ contents-all (Some p ∷ ps) d e =
     let a = apart p ps d in
     let ih = contents-all ps (a .1) (later-none _ e) in
     length-insert-new (p .key) (p .value) (contents ps) (a .0) ∙ ap suc ih
+
+-- a key is found among the places exactly if the map has it
+pub found-by : (k : ℕ) (ps : Places) → isSome (first (holds k) ps) ≡ isSome (find k (contents ps))
+found-by k ps = go (first (holds k) ps) refl
+  where
+    go : (o : Option ℕ) → first (holds k) ps ≡ o → isSome (first (holds k) ps) ≡ isSome (find k (contents ps))
+    go None e = ap isSome e ∙ ap isSome (sym (none-kept k ps e))
+    go (Some i) e = ap isSome e ∙ sym (some-kept k ps i e)
+
+-- a place is free for a new key exactly if the pairs are fewer than the places
+pub room-by : (k : ℕ) (ps : Places) → distinct ps ≡ true → first (holds k) ps ≡ None → isSome (first is-free ps) ≡ not (no-room k ps)
+room-by k ps d e = go (first is-free ps) refl
+  where
+    absent : find k (contents ps) ≡ None
+    absent = none-kept k ps e
+
+    go : (o : Option ℕ) → first is-free ps ≡ o → isSome (first is-free ps) ≡ not (no-room k ps)
+    go None n = let all = contents-all ps d n in let none = absent in grind (arith, tells)
+    go (Some i) n = let fewer = contents-fewer ps i n in let none = absent in grind (arith, tells)
 
 within-rows : (capacity : ℕ) (ps : Places) → length ps ≡ capacity → WithinCapacity capacity (contents ps)
 within-rows capacity ps sized = record { ascending = contents-ascending ps; few = (let h = contents-few ps in omega arith) }

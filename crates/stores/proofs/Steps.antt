@@ -28,14 +28,6 @@ module _ (capacity : ℕ) (committed : Pairs) (working : Places) (changes : Opti
   abbrev before : StoreModel
   before = row-model capacity committed working changes
 
-  put-full-in : (v : ℕ) (o : Option ℕ) → first (holds k) working ≡ o → place-for k working ≡ None → put-in capacity k v (record { working = contents working; changes = n }) ≡ Err Full
-  put-full-in v None e none =
-      let absent = none-kept k working e in
-      let free : first is-free working ≡ None = grind (arith, tells) in
-      let all = contents-all working apart free in
-      grind (arith, tells)
-  put-full-in v (Some i) e none = grind (arith, tells)
-
   put-placed-in : (v : ℕ) (o : Option ℕ) (i : ℕ) → first (holds k) working ≡ o → place-for k working ≡ Some i → put-in capacity k v (record { working = contents working; changes = n }) ≡ Ok (record { working = contents (set working i (Some (pair k v))); changes = n + 1 })
   put-placed-in v None i e there =
       let free : first is-free working ≡ Some i = grind (arith, tells) in
@@ -52,21 +44,11 @@ module _ (capacity : ℕ) (committed : Pairs) (working : Places) (changes : Opti
   distinct-placed v None i e there = distinct-add k v working i apart e (grind (arith, tells))
   distinct-placed v (Some j) i e there = distinct-replace k v working i apart (grind (arith, tells))
 
-  -- a new key and no free place
-  pub put-full : (v : ℕ) → None ≡ place-for k working → refuse Full before ≡ put-step k v before
-  put-full v none = rw trial-open (rw (put-full-in v (first (holds k) working) refl (sym none)) refl)
-
   pub put-placed : (v i : ℕ) → Some i ≡ place-for k working → accept (row-model capacity committed (set working i (Some (pair k v))) (Some (n + 1))) ≡ put-step k v before
   put-placed v i there = rw trial-open (rw (put-placed-in v (first (holds k) working) i refl (sym there)) refl)
 
   pub put-distinct : (v i : ℕ) → Some i ≡ place-for k working → distinct (set working i (Some (pair k v))) ≡ true
   put-distinct v i there = distinct-placed v (first (holds k) working) i refl (sym there)
-
-  pub drop-absent : None ≡ first (holds k) working → refuse KeyAbsent before ≡ drop-step k before
-  drop-absent none =
-      let absent = none-kept k working (sym none) in
-      let change : drop-in k (record { working = contents working; changes = n }) ≡ Err KeyAbsent = grind (arith, tells) in
-      rw trial-open (rw change refl)
 
   pub drop-placed : (i : ℕ) → Some i ≡ first (holds k) working → accept (row-model capacity committed (set working i None) (Some (n + 1))) ≡ drop-step k before
   drop-placed i there =

@@ -3,6 +3,7 @@ use Prim.Native.Nat.{ℕ, suc, _<_}
 use mathlib.Core.Bool.{Bool, true, false, not, _&&_, cond}
 use mathlib.Core.List.{List, [], _∷_}
 use lib.Dec.{eqb, leb}
+use lib.ListN.{length}
 use Rattle.std.specs.Options.{isSome}
 use Rattle.std.specs.declared.option.Option.{Option}
 use Rattle.std.specs.declared.option.Option.the-variants.{Some, None}
@@ -43,6 +44,10 @@ abbrev pub contents : Places → Pairs
 contents [] = []
 contents (None ∷ ps) = contents ps
 contents (Some p ∷ ps) = insert (p .key) (p .value) (contents ps)
+
+-- the key is new and the pairs are as many as the places
+abbrev pub no-room : ℕ → Places → Bool
+no-room key ps = not (isSome (find key (contents ps))) && leb (length ps) (length (contents ps))
 
 -- no key has two places
 abbrev pub distinct : Places → Bool

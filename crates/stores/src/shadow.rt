@@ -103,10 +103,12 @@ pub impl Store for ShadowStore as ShadowStoreStore {
     }
 
     fn roll_back(&mut self) -> Result<(), StoreRefusal> {
-        if self.changes.is_none() {
-            return Err(StoreRefusal::TrialClosed);
+        match self.changes {
+            None => Err(StoreRefusal::TrialClosed),
+            Some(_) => {
+                self.changes = None;
+                Ok(())
+            }
         }
-        self.changes = None;
-        Ok(())
     }
 }

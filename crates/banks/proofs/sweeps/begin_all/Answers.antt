@@ -19,7 +19,7 @@ returns-then-is-err g c =
     let told = told-open ms i (refused .0) in
     record {
       answer = sym (told .0);
-      next = c .roll-back-first .ensures
+      next = c .roll-back-first .ensures .first
           ∙ ap (first-stores roll-back-step i) (c .begin .ensures .next ∙ refused .1 ∙ c .loop-service .inv .begun)
           ∙ c .loop-service .inv .back
           ∙ sym (told .1);

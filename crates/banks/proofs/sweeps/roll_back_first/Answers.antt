@@ -3,7 +3,7 @@ use native.Mathlib.Omega.{arith}
 use Rattle.stores.specs.Store.{roll-back-step}
 use Rattle.banks.specs.Bank.{at-store}
 use Rattle.banks.specs.Sweeps.{first-stores}
-use Rattle.banks.proofs.Turns.{turn-more}
+use Rattle.banks.proofs.Turns.{turn-more, turn-all}
 use Rattle.banks.proofs.sweeps.roll_back_first.Needs as need
 
 pub loop-service-again : need.loop-service-again
@@ -14,4 +14,5 @@ loop-service-again g c =
 pub returns : need.returns
 returns g c =
     let ms = g .B·Bank .stores (c .args .bank .now) in
-    c .loop-service .inv ∙ ap (λ n. first-stores roll-back-step n ms) (omega arith)
+    let first = c .loop-service .inv ∙ ap (λ n. first-stores roll-back-step n ms) (omega arith) in
+    record { first = first; all = λ few. first ∙ turn-all roll-back-step (c .args .count) ms few }

@@ -3,14 +3,8 @@ use native.Mathlib.Omega.{arith}
 use lib.ListN.{length-set}
 use Rattle.std.proofs.shelf.Tests.{le-leb}
 use Rattle.stores.specs.Places.{contents}
-use Rattle.stores.proofs.Steps.{put-full, put-placed, put-distinct}
+use Rattle.stores.proofs.Steps.{put-placed, put-distinct}
 use Rattle.stores.proofs.shadow.ShadowStoreStore.put.Needs as need
-
-pub returns-in-rest-place-for : need.returns-in-rest-place-for
-returns-in-rest-place-for c =
-    let s = c .args .self .now in
-    let e = put-full 16 (contents (s .committed)) (s .working) (s .changes) (c .in-Some .changes) (c .args .key) (s .«working_sized») (s .«working_distinct») (c .in-Some .is) (c .if-changes-ge-CHANGE-LIMIT .left) (c .args .value) (c .in-rest-place-for .ensures tt .answer) in
-    record { answer = ap (λ x. x .answer) e; next = ap (λ x. x .next) e }
 
 pub ghost-self : need.ghost-self
 ghost-self c =

@@ -7,14 +7,8 @@ use Rattle.std.specs.declared.option.Option.the-variants.{Some, None}
 use Rattle.stores.specs.Notes.{in-use, rewound}
 use Rattle.stores.specs.Places.{contents, distinct}
 use Rattle.stores.proofs.Rewinds.{rewound-noted}
-use Rattle.stores.proofs.Steps.{row-model, drop-absent, drop-placed, drop-distinct}
+use Rattle.stores.proofs.Steps.{row-model, drop-placed, drop-distinct}
 use Rattle.stores.proofs.undo.UndoStoreStore.drop.Needs as need
-
-pub returns-in-rest-place-of : need.returns-in-rest-place-of
-returns-in-rest-place-of c =
-    let s = c .args .self .now in
-    let e = drop-absent 32 (contents (rewound (in-use (s .changes) (s .notes)) (s .places))) (s .places) (s .changes) (c .in-Some .changes) (c .args .key) (s .sized) (s .«keys_distinct») (c .in-Some .is) (c .if-changes-ge-CHANGE-LIMIT .left) (c .in-rest-place-of .ensures tt .answer) in
-    record { answer = ap (λ x. x .answer) e; next = ap (λ x. x .next) e }
 
 pub ghost-self : need.ghost-self
 ghost-self c =

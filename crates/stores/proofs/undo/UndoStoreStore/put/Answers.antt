@@ -8,14 +8,8 @@ use Rattle.stores.specs.Notes.{in-use, rewound}
 use Rattle.stores.specs.Pairs.{pair}
 use Rattle.stores.specs.Places.{contents, distinct}
 use Rattle.stores.proofs.Rewinds.{rewound-noted}
-use Rattle.stores.proofs.Steps.{row-model, put-full, put-placed, put-distinct}
+use Rattle.stores.proofs.Steps.{row-model, put-placed, put-distinct}
 use Rattle.stores.proofs.undo.UndoStoreStore.put.Needs as need
-
-pub returns-in-rest-place-for : need.returns-in-rest-place-for
-returns-in-rest-place-for c =
-    let s = c .args .self .now in
-    let e = put-full 32 (contents (rewound (in-use (s .changes) (s .notes)) (s .places))) (s .places) (s .changes) (c .in-Some .changes) (c .args .key) (s .sized) (s .«keys_distinct») (c .in-Some .is) (c .if-changes-ge-CHANGE-LIMIT .left) (c .args .value) (c .in-rest-place-for .ensures tt .answer) in
-    record { answer = ap (λ x. x .answer) e; next = ap (λ x. x .next) e }
 
 pub ghost-self : need.ghost-self
 ghost-self c =

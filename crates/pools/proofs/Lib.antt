@@ -1,0 +1,4 @@
+pub mod Held
+pub mod Laws
+mod Places
+mod Steps
