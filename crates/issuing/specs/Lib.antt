@@ -1,3 +1,1 @@
-pub mod Causes
 pub mod Transaction
-pub mod Token

@@ -1,13 +1,6 @@
-// Issuing a token: changes in several stores that stand in all of them or in none.
-mod token;
+// Issuing: the parts of a script run on any bank, and stand in all of its stores or in none.
+mod outcome;
 mod transaction;
-mod types;
 
-pub use token::Holdings;
-pub use token::Token;
-pub use token::held_of;
-pub use token::issue;
+pub use outcome::Outcome;
 pub use transaction::transact;
-pub use types::Cause;
-pub use types::Change;
-pub use types::Failure;

@@ -1,52 +1,70 @@
-// A transaction over any bank: all of its changes stand, or none.
+// A transaction over any bank: what a script's parts change stands in every store, or in none.
 ghost use mathlib.Core.Path.{_≡_};
-ghost use Rattle.issuing.specs.Transaction.{put-all, transaction};
-use crate::types::Cause;
-use crate::types::Change;
-use crate::types::Failure;
+ghost use mathlib.Core.Bool.{cond};
+ghost use Rattle.stores.specs.Store.{commit-step, roll-back-step};
+ghost use Rattle.banks.specs.Sweeps.{each-store};
+ghost use Rattle.scripts.specs.Lists.{parts-of};
+ghost use Rattle.issuing.specs.Transaction.{turn, says-yes, told-of, settled-of, transaction};
+use crate::outcome::Outcome;
 use banks::Bank;
-use banks::BankRefusal;
 use banks::begin_all;
 use banks::commit_all;
 use banks::roll_back_all;
-use stores::StoreRefusal;
+use parts::Ran;
+use parts::Vote;
+use parts::run_part;
+use scripts::Script;
 
-// Makes the changes in the open trials, up to the first that is refused.
-fn put_all<B: Bank>(bank: &mut B, changes: &[Change]) -> Result<(), Failure>
-    ensures answer { λ r. ⌜ r ≡ put-all (now (changes .entry)) (B·Bank .stores (now (bank .entry))) .answer ⌝ }
-    ensures next { λ r. ⌜ B·Bank .stores (now (bank .exit)) ≡ put-all (now (changes .entry)) (B·Bank .stores (now (bank .entry))) .next ⌝ }
+// Runs the part with a number, if the script has it.
+fn take_turn<B: Bank>(bank: &mut B, script: &Script, i: usize) -> Option<Ran>
+    ensures told { λ r. ⌜ told-of r ≡ turn (parts-of (now (script .entry))) i (B·Bank .stores (now (bank .entry))) .told ⌝ }
+    ensures next { λ r. ⌜ B·Bank .stores (now (bank .exit)) ≡ turn (parts-of (now (script .entry))) i (B·Bank .stores (now (bank .entry))) .next ⌝ }
 {
-    for change in changes {
-        if let Err(why) = bank.put(change.service, change.key, change.value) {
-            return Err(Failure {
-                service: change.service,
-                cause: Cause::ByBank(why),
-            });
-        }
+    match script.part(i) {
+        Some(part) => Some(run_part(bank, part.service, &part.operations)),
+        None => None,
     }
-    Ok(())
 }
 
-// Begins a trial in every store, makes the changes and commits in every store; if one is refused,
-// rolls back in every store, and the bank is as it was.
-pub fn transact<B: Bank>(bank: &mut B, changes: &[Change]) -> Result<(), Failure>
-    ensures answer { λ r. ⌜ r ≡ transaction (now (changes .entry)) (B·Bank .stores (now (bank .entry))) .answer ⌝ }
-    ensures next { λ r. ⌜ B·Bank .stores (now (bank .exit)) ≡ transaction (now (changes .entry)) (B·Bank .stores (now (bank .entry))) .next ⌝ }
+// A part that is not there does not say no.
+fn says_yes(ran: &Option<Ran>) -> bool
+    ensures { λ r. ⌜ r ≡ says-yes (told-of (now (ran .entry))) ⌝ }
+{
+    match ran {
+        Some(ran) => match ran.vote {
+            Vote::Yes => true,
+            Vote::No { .. } => false,
+        },
+        None => true,
+    }
+}
+
+// Commits or rolls back in every store.
+fn settle<B: Bank>(bank: &mut B, agreed: bool)
+    ensures { λ _. ⌜ B·Bank .stores (now (bank .exit)) ≡ cond agreed (each-store commit-step (B·Bank .stores (now (bank .entry)))) (each-store roll-back-step (B·Bank .stores (now (bank .entry)))) ⌝ }
+{
+    if agreed {
+        commit_all(bank);
+    } else {
+        roll_back_all(bank);
+    }
+}
+
+// Begins a trial in every store and runs the parts. If every vote is yes all stores commit; else all
+// roll back, and the bank is as it was. Refused, with the store's number, if a trial is open.
+pub fn transact<B: Bank>(bank: &mut B, script: &Script) -> Result<Outcome, u8>
+    ensures answer { λ r. ⌜ settled-of r ≡ transaction (parts-of (now (script .entry))) (B·Bank .stores (now (bank .entry))) .answer ⌝ }
+    ensures next { λ r. ⌜ B·Bank .stores (now (bank .exit)) ≡ transaction (parts-of (now (script .entry))) (B·Bank .stores (now (bank .entry))) .next ⌝ }
 {
     if let Err(service) = begin_all(bank) {
-        return Err(Failure {
-            service,
-            cause: Cause::ByBank(BankRefusal::ByStore(StoreRefusal::TrialOpen)),
-        });
+        return Err(service);
     }
-    match put_all(bank, changes) {
-        Ok(()) => {
-            commit_all(bank);
-            Ok(())
-        }
-        Err(failure) => {
-            roll_back_all(bank);
-            Err(failure)
-        }
-    }
+    let first = take_turn(bank, script, 0);
+    let second = take_turn(bank, script, 1);
+    let third = take_turn(bank, script, 2);
+    let fourth = take_turn(bank, script, 3);
+    let committed = says_yes(&first) & says_yes(&second) & says_yes(&third) & says_yes(&fourth);
+    settle(bank, committed);
+    let parts = [first, second, third, fourth];
+    Ok(Outcome { parts, committed })
 }

@@ -1,0 +1,2 @@
+pub mod BankRuns
+pub mod Backs

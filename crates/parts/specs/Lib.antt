@@ -1,0 +1,4 @@
+pub mod Votes
+pub mod Looks
+pub mod Runs
+pub mod OnBank

@@ -1,0 +1,6 @@
+mod InUse
+mod Kept
+mod Lawful
+mod Rules
+mod Steps
+mod Turns

@@ -1,0 +1,31 @@
+// Scripts: bytes read as the parts of a transaction, each a few operations on one service.
+mod bounded;
+mod commands;
+mod cursor;
+mod laws;
+mod operations;
+mod parts;
+mod reader;
+mod types;
+
+pub use bounded::OPERATION_LIMIT;
+pub use bounded::OperationList;
+pub use bounded::PART_LIMIT;
+pub use bounded::Script;
+pub use bounded::ScriptPart;
+pub use cursor::PartText;
+pub use laws::script_laws_hold;
+pub use reader::Reader;
+pub use reader::read_script;
+pub use types::Operation;
+pub use types::OperationDebug;
+pub use types::OperationEq;
+pub use types::OperationPartialEq;
+pub use types::ScriptReason;
+pub use types::ScriptReasonDebug;
+pub use types::ScriptReasonEq;
+pub use types::ScriptReasonPartialEq;
+pub use types::ScriptRefusal;
+pub use types::ScriptRefusalDebug;
+pub use types::ScriptRefusalEq;
+pub use types::ScriptRefusalPartialEq;
