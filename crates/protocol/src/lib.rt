@@ -1,0 +1,8 @@
+// The protocol: what each call of a site answers and changes, as definitions; and the law of every run.
+mod laws;
+mod types;
+
+pub use laws::examples_hold;
+pub use types::PartState;
+pub use types::Phase;
+pub use types::Reason;
