@@ -1,3 +1,9 @@
 pub mod Worked
 pub mod Guards
+pub mod Counts
+pub mod Waiting
+pub mod Room
+pub mod Effects
+pub mod KeptFacts
 pub mod SingleFile
+pub mod Tables

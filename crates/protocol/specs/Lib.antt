@@ -5,3 +5,4 @@ pub mod Runs
 pub mod Examples
 pub mod Ledger
 pub mod Law
+pub mod Kept

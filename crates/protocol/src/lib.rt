@@ -3,6 +3,7 @@ mod laws;
 mod types;
 
 pub use laws::examples_hold;
+pub use laws::kept_facts_hold;
 pub use types::PartState;
 pub use types::Phase;
 pub use types::Reason;

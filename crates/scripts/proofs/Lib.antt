@@ -1,6 +1,6 @@
 mod InUse
 mod Kept
-mod Lawful
+pub mod Lawful
 mod Rules
 mod Steps
 mod Turns
