@@ -1,6 +1,7 @@
 // What is proved of the definitions, as contracts.
 ghost use Rattle.protocol.specs.Examples.{Examples};
 ghost use Rattle.protocol.specs.Kept.{KeptLaws};
+ghost use Rattle.protocol.specs.Law.{LawOfEveryRun};
 
 // Does nothing: its contract is that the definitions give each worked example.
 pub fn examples_hold()
@@ -11,4 +12,12 @@ pub fn examples_hold()
 // other, and at most one message for each part that waits; so that each finds a place.
 pub fn kept_facts_hold()
     ensures { λ _. ⌜ KeptLaws ⌝ }
+{}
+
+// Does nothing: its contract is the law of every run. After every list of the ten calls from an
+// opening, no service has acted against its client's decision, and the committed transactions, run
+// one at a time in the order of their decisions, vote yes, give the look numbers that GET gave, and
+// leave the pairs that stand in the stores.
+pub fn law_of_every_run_holds()
+    ensures { λ _. ⌜ LawOfEveryRun ⌝ }
 {}

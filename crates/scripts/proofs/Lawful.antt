@@ -1,6 +1,6 @@
 -- The laws of reading: what every command keeps holds of the parts of an accepted script.
 use mathlib.Core.Path.{_≡_, refl, sym, ap, subst}
-use mathlib.Core.List.{List, []}
+use mathlib.Core.List.{List}
 use mathlib.Core.Logic.{⊎-elim}
 use Prim.Native.Nat.{ℕ, zero, suc, _+_, _-_, _<_, _≤_}
 use native.Mathlib.Omega.{arith}
@@ -11,10 +11,10 @@ use Rattle.std.specs.declared.result.Result.{Result}
 use Rattle.std.specs.declared.result.Result.the-variants.{Ok, Err}
 use Rattle.scripts.specs.declared.types.ScriptRefusal.{ScriptRefusal}
 use Rattle.scripts.specs.Laws.{LawfulParts, ScriptLaws, nth-part}
-use Rattle.scripts.specs.Reading.{Part, Progress, newest, end-script, read-command, read-from, read-script}
+use Rattle.scripts.specs.Reading.{Part, Progress, newest, start, end-script, read-command, read-from, read-script}
 use Rattle.scripts.proofs.Kept.{Kept, kept-none, kept-in}
 use Rattle.scripts.proofs.Rules.{came, refused-there}
-use Rattle.scripts.proofs.Turns.{accepted, read-on, read-refused, read-ended}
+use Rattle.scripts.proofs.Turns.{accepted, turns-enough, read-on, read-refused, read-ended}
 
 -- what the laws say of an answer
 abbrev Lawful : (services : ℕ) → List ℕ → Result (List Part) ScriptRefusal → Type 0
@@ -64,8 +64,9 @@ module _ (services : ℕ) (bytes : List ℕ) where
 pub script-laws : ScriptLaws
 script-laws =
     let all : (services : ℕ) (bytes : List ℕ) → Lawful services bytes (read-script services bytes) = λ services bytes.
-    lawful-from services bytes (length bytes) (record { at = 0; parts = [] }) (omega arith) (kept-none services) in
+    lawful-from services bytes (length bytes) start (omega arith) (kept-none services) in
     record {
       accepted = λ services bytes parts ok. subst (Lawful services bytes) ok (all services bytes);
+      enough = λ more services bytes. turns-enough services bytes (length bytes + more) (length bytes) start (omega arith) (omega arith);
       refused = λ services bytes refusal e. subst (Lawful services bytes) e (all services bytes);
     }

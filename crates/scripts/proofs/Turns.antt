@@ -65,7 +65,7 @@ module _ (services : ℕ) (bytes : List ℕ) where
   turn n m p (Ok q) e later = let ih = later q (accepted p q e .more) in grind (arith, tells)
 
   -- with turns enough for what is left, more turns change nothing
-  turns-enough : (n m : ℕ) (p : Progress) → length bytes ≤ p .at + n → length bytes ≤ p .at + m → read-from n services bytes p ≡ read-from m services bytes p
+  pub turns-enough : (n m : ℕ) (p : Progress) → length bytes ≤ p .at + n → length bytes ≤ p .at + m → read-from n services bytes p ≡ read-from m services bytes p
   turns-enough zero zero p h k = refl
   turns-enough zero (suc m) p h k = grind (arith, tells)
   turns-enough (suc n) zero p h k = grind (arith, tells)

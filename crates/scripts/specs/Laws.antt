@@ -1,11 +1,11 @@
--- What holds of every script that is accepted, and of every refusal.
+-- What holds of every script that is accepted, of every refusal, and of reading itself.
 use mathlib.Core.Path.{_≡_}
 use mathlib.Core.List.{List}
-use Prim.Native.Nat.{ℕ, _<_, _≤_}
+use Prim.Native.Nat.{ℕ, _+_, _<_, _≤_}
 use lib.ListN.{length, getD}
 use Rattle.std.specs.declared.result.Result.the-variants.{Ok, Err}
 use Rattle.scripts.specs.declared.types.ScriptRefusal.{ScriptRefusal}
-use Rattle.scripts.specs.Reading.{Part, opened, read-script}
+use Rattle.scripts.specs.Reading.{Part, opened, start, read-from, read-script}
 
 -- the part with a number, from 0
 abbrev pub nth-part : List Part → ℕ → Part
@@ -26,5 +26,7 @@ pub record LawfulParts (services : ℕ) (parts : List Part) : Type 0 where
 
 pub record ScriptLaws : Type 0 where
   pub accepted : (services : ℕ) (bytes : List ℕ) (parts : List Part) → read-script services bytes ≡ Ok parts → LawfulParts services parts
+  -- more turns change nothing: a script is read to its end
+  pub enough : (more services : ℕ) (bytes : List ℕ) → read-from (length bytes + more) services bytes start ≡ read-script services bytes
   -- a refusal blames a command of the script or its end
   pub refused : (services : ℕ) (bytes : List ℕ) (refusal : ScriptRefusal) → read-script services bytes ≡ Err refusal → refusal .place ≤ length bytes

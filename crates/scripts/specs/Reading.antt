@@ -73,6 +73,9 @@ pub record Progress : Type 0 where
   pub at : ℕ
   pub parts : List Part
 
+abbrev pub start : Progress
+start = record { at = 0; parts = [] }
+
 abbrev pub refused : {X : Type 0} → ScriptReason → (place : ℕ) → Result X ScriptRefusal
 refused reason place = Err (record { reason = reason; place = place })
 
@@ -102,4 +105,4 @@ read-from (suc turns) services bytes p =
 
 -- a script, with the number of services: its parts, or the first refusal
 abbrev pub read-script : (services : ℕ) → List ℕ → Result (List Part) ScriptRefusal
-read-script services bytes = read-from (length bytes) services bytes (record { at = 0; parts = [] })
+read-script services bytes = read-from (length bytes) services bytes start

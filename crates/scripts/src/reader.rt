@@ -2,9 +2,9 @@
 ghost use mathlib.Core.Bool.{true};
 ghost use mathlib.Core.Path.{_≡_};
 ghost use Rattle.std.specs.Results.{isErr};
-ghost use Rattle.scripts.specs.Cursors.{Hands, between, comes-to};
+ghost use Rattle.scripts.specs.Cursors.{Hands, between, comes-to, progress};
 ghost use Rattle.scripts.specs.Lists.{answer-of};
-ghost use Rattle.scripts.specs.Reading.{read-script};
+ghost use Rattle.scripts.specs.Reading.{read-script, start};
 use crate::bounded::Script;
 use crate::cursor::Cursor;
 use crate::cursor::PartText;
@@ -20,7 +20,8 @@ pub struct Reader<'a> {
 impl<'a> Reader<'a> {
     // A reader at the start of a script, for so many services.
     pub fn new(bytes: &'a [u8], services: u8) -> Self
-        ensures { λ r. ⌜ comes-to (r .cursor) ≡ read-script services (now (bytes .entry)) ⌝ }
+        ensures starts { λ r. ⌜ progress (r .cursor) ≡ start ⌝ }
+        ensures comes { λ r. ⌜ comes-to (r .cursor) ≡ read-script services (now (bytes .entry)) ⌝ }
     {
         Reader {
             cursor: Cursor {
