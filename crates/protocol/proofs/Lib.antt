@@ -23,3 +23,6 @@ pub mod OpenTrials
 pub mod PartPlaces
 pub mod DecideLeaf
 pub mod EveryRun
+pub mod Quiet
+pub mod Trials
+pub mod NeverRuns

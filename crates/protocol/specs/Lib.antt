@@ -6,3 +6,4 @@ pub mod Examples
 pub mod Ledger
 pub mod Law
 pub mod Kept
+pub mod Never

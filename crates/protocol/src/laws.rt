@@ -2,6 +2,7 @@
 ghost use Rattle.protocol.specs.Examples.{Examples};
 ghost use Rattle.protocol.specs.Kept.{KeptLaws};
 ghost use Rattle.protocol.specs.Law.{LawOfEveryRun};
+ghost use Rattle.protocol.specs.Never.{RegularRuns};
 
 // Does nothing: its contract is that the definitions give each worked example.
 pub fn examples_hold()
@@ -20,4 +21,11 @@ pub fn kept_facts_hold()
 // leave the pairs that stand in the stores.
 pub fn law_of_every_run_holds()
     ensures { λ _. ⌜ LawOfEveryRun ⌝ }
+{}
+
+// Does nothing: its contract is that no run comes to a state in which a definition merely chooses an
+// answer: a Given service without a request, a trial that does not fit the phase, a full pool, a part
+// that has a message before its service replied.
+pub fn runs_stay_regular()
+    ensures { λ _. ⌜ RegularRuns ⌝ }
 {}
