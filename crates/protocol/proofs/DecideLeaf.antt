@@ -2,7 +2,7 @@
 use Prim.Native.Nat.{ℕ, _+_, _<_}
 use mathlib.Core.Path.{_≡_, refl, ap, sym, subst, _∙_}
 use mathlib.Core.Bool.{Bool, true, false, _&&_}
-use mathlib.Core.List.{List, [], _∷_, _++_}
+use mathlib.Core.List.{List, _∷_, _++_}
 use mathlib.Core.Logic.{_≢_, _⊎_, inl, inr}
 use native.Mathlib.Omega.{arith}
 use lib.Dec.{ltb}
@@ -17,43 +17,31 @@ use Rattle.std.specs.shelf.Lists.{All}
 use Rattle.stores.specs.Store.{StoreModel, visible}
 use Rattle.banks.specs.Bank.{BankModel}
 use Rattle.banks.proofs.OneStore.{nth-set-same, nth-set-other}
-use Rattle.parts.specs.declared.votes.Vote.the-variants.{Yes}
 use Rattle.scripts.specs.declared.types.Operation.{Operation}
 use Rattle.scripts.specs.Reading.{Part}
+use Rattle.parts.specs.declared.votes.Vote.the-variants.{Yes}
 use Rattle.protocol.specs.declared.types.PartState.the-variants.{Replied}
 use Rattle.protocol.specs.Calls.{Outcome, with-client, with-decisions, pending-from, all-replied, decisions-of}
 use Rattle.protocol.specs.Kept.{Kept}
 use Rattle.protocol.specs.Law.{commit-parts, PartsRight, LineRight, single-file, settled-by, settled-pairs}
-use Rattle.protocol.specs.Ledger.{Ledger, Engagement, put-at, with-fate, add, add-accepted}
+use Rattle.protocol.specs.Ledger.{Ledger, Engagement, put-at, with-fate, add-accepted}
 use Rattle.protocol.specs.Ledger.Engagement.{off, on, engaged}
 use Rattle.protocol.specs.Ledger.Fate.{undecided, to-commit, to-abort}
 use Rattle.protocol.specs.Runs.Call.{DECIDE}
-use Rattle.protocol.specs.Site.{Site, Client, OpenPart, Transaction, Hold, Service, Request, Decision}
+use Rattle.protocol.specs.Site.{Site, Client, OpenPart, Transaction, Hold, Service, Decision}
 use Rattle.protocol.specs.Site.Service.{down, ready, given, holding, promised}
 use Rattle.protocol.proofs.Guards.{by-open, by-option, by-test}
-use Rattle.protocol.proofs.Invariant.{named, AlikeParts, at-rest, fate-of, HasPart, entries, Held, Fits, Open, PromisedYes, Asks, Decides, settled-store, Inv, Keeps}
+use Rattle.protocol.proofs.Invariant.{named, AlikeParts, at-rest, fate-of, fate-decided, HasPart, entries, Held, Fits, Open, PromisedYes, Decides, settled-store, Inv, KeptAfter, Keeps, Given}
+use Rattle.protocol.proofs.LaterEntries.{Later, fits-later, open-later, asks-later, decides-later}
+use Rattle.protocol.proofs.Lines.{SameEntry, same-entries, same-file, same-right, settled-alike}
 use Rattle.protocol.proofs.OpenTrials.{kept-shown}
-use Rattle.protocol.proofs.PartPlaces.{open-part, replied-at, Distinct, distinct-alike, all-at, apart-distinct, each-right, find-part, no-part, beside, in-either, decision-at}
+use Rattle.protocol.proofs.PartPlaces.{open-part, replied-at, Distinct, distinct-alike, apart-distinct, each-right, find-part}
 use Rattle.protocol.proofs.SingleFile.{tried, Elsewhere, Apart, Closed, AllClosed, EachRight, in-trial-is, parts-right, commit-parts-elsewhere, commit-parts-there}
-use Rattle.protocol.proofs.Tables.{by-place, put-here, put-there}
-
-fate-decided : (commits : Bool) → fate-of commits ≡ undecided → ⊥
-fate-decided true e = grind arith
-fate-decided false e = grind arith
+use Rattle.protocol.proofs.Tables.{none-is-some, beside, all-at, by-append, by-place, put-here, put-there, at-place, by-map}
 
 fate-commits : (commits : Bool) → fate-of commits ≡ to-commit → commits ≡ true
 fate-commits true e = refl
 fate-commits false e = grind arith
-
--- the single-file run does not see fates
-same-file : (start : BankModel) (l : Ledger) (t : ℕ) (commits : Bool) (line : List ℕ) → single-file (with-fate t commits l) start line ≡ single-file l start line
-same-file start l t commits [] = refl
-same-file start l t commits (u ∷ line) = ap (commit-parts (l .parts u)) (same-file start l t commits line)
-
-same-right : (start : BankModel) (l : Ledger) (t : ℕ) (commits : Bool) (line : List ℕ) → LineRight l start line → LineRight (with-fate t commits l) start line
-same-right start l t commits [] r = tt
-same-right start l t commits (u ∷ line) r =
-    (subst (PartsRight (l .noted u) 0 (l .parts u)) (sym (same-file start l t commits line)) (r .0), same-right start l t commits line (r .1))
 
 abbrev idle-next : Client → Client
 idle-next client = record { number = client .number + 1; parts = None }
@@ -74,11 +62,18 @@ record AnsweredPart (s : Site) (l : Ledger) (t j : ℕ) (p : Part) : Type 0 wher
 
 module _ (start : BankModel) (s : Site) (l : Ledger) (N : ℕ → Transaction) (k : Kept s) (I : Inv start s l N) (c : ℕ) (client : Client) (ps : List OpenPart) (there : nth (s .clients) c ≡ Some client) (is-open : client .parts ≡ Some ps) (t : ℕ) (newest : l .newest c ≡ Some t) (entered : t < l .entered) (name : N t ≡ named c (client .number)) (pending : l .fate t ≡ undecided) (alike : AlikeParts ps (l .parts t)) where
   module _ (commits : Bool) where
+    -- the single-file run does not see fates
+    same-line : All (SameEntry l (with-fate t commits l)) (l .line)
+    same-line = same-entries l (with-fate t commits l) (l .line) refl refl
+
     fate-there : (u : ℕ) → u ≢ t → put-at (l .fate) t (fate-of commits) u ≡ l .fate u
     fate-there u apart = put-there (l .fate) t u (fate-of commits) apart
 
     fate-here : put-at (l .fate) t (fate-of commits) t ≡ fate-of commits
     fate-here = put-here (l .fate) t (fate-of commits)
+
+    later : Later (entries N l) (entries N (with-fate t commits l))
+    later = record { more = omega arith; name = λ _ _. refl; parts = λ _ _. refl }
 
     -- a decided entry is another
     decided-apart : (u : ℕ) (b : Bool) → l .fate u ≡ fate-of b → u ≢ t
@@ -117,47 +112,31 @@ module _ (start : BankModel) (s : Site) (l : Ledger) (N : ℕ → Transaction) (
             omega arith
         go (inr apart) (inr other) = I .decided-past u x within (sym (nth-set-other (s .clients) c (N u .client) (idle-next client) other) ∙ e) (λ g. f (fate-there u apart ∙ g))
 
-    idle-closed : {X : Type 0} (qs : List OpenPart) → idle-next client .parts ≡ Some qs → X
-    idle-closed qs e = grind arith
-
     opens-after : (d : ℕ) (x : Client) (qs : List OpenPart) → nth (set (s .clients) c (idle-next client)) d ≡ Some x → x .parts ≡ Some qs → Open (entries N (with-fate t commits l)) (l .newest d) d (x .number) qs
-    opens-after d x qs e = by-place (λ b y. (rs : List OpenPart) → y .parts ≡ Some rs → Open (entries N (with-fate t commits l)) (l .newest b) b (y .number) rs) (s .clients) c client (idle-next client) there (λ rs f. idle-closed rs f) others d x e qs
+    opens-after d x qs e = by-place (λ b y. (rs : List OpenPart) → y .parts ≡ Some rs → Open (entries N (with-fate t commits l)) (l .newest b) b (y .number) rs) (s .clients) c client (idle-next client) there (λ rs f. none-is-some rs f) others d x e qs
       where
         others : (b : ℕ) (y : Client) → b ≢ c → nth (s .clients) b ≡ Some y → (rs : List OpenPart) → y .parts ≡ Some rs → Open (entries N (with-fate t commits l)) (l .newest b) b (y .number) rs
         others b y other f rs g =
             let o = I .opens b y rs f g in
-            record {
-              entry = o .entry;
-              is-newest = o .is-newest;
-              entered = o .entered;
-              name = o .name;
-              pending = fate-there (o .entry) (λ same. other (ap (λ z. z .client) (sym (o .name) ∙ ap N same ∙ name))) ∙ o .pending;
-              parts-alike = o .parts-alike;
-            }
+            open-later (entries N l) (entries N (with-fate t commits l)) later (l .newest b) b (y .number) rs o (fate-there (o .entry) (λ same. other (ap (λ z. z .client) (sym (o .name) ∙ ap N same ∙ name))))
 
     answered-after : (d u p : ℕ) (x : Client) (qs : List OpenPart) (part : OpenPart) → nth (set (s .clients) c (idle-next client)) d ≡ Some x → x .parts ≡ Some qs → nth qs p ≡ Some part → part .state ≡ Replied → l .newest d ≡ Some u → (looks : List ℕ) × (l .noted u p ≡ Some looks) × PromisedYes (s .services) (part .service) (named d (x .number)) looks
     answered-after d u p x qs part e =
         by-place (λ b y. y .parts ≡ Some qs → nth qs p ≡ Some part → part .state ≡ Replied → l .newest b ≡ Some u → (looks : List ℕ) × (l .noted u p ≡ Some looks) × PromisedYes (s .services) (part .service) (named b (y .number)) looks)
-        (s .clients) c client (idle-next client) there (λ f _ _ _. idle-closed qs f) (λ b y other f g h i j. I .answered b u p y qs part f g h i j) d x e
+        (s .clients) c client (idle-next client) there (λ f _ _ _. none-is-some qs f) (λ b y other f g h i j. I .answered b u p y qs part f g h i j) d x e
 
     tells-after : (j : ℕ) (d : Decision) → nth (s .decisions ++ decisions-of c (client .number) commits ps) j ≡ Some d → Decides (entries N (with-fate t commits l)) d
-    tells-after j d e = go (in-either (s .decisions) (decisions-of c (client .number) commits ps) j d e)
+    tells-after = by-append (Decides (entries N (with-fate t commits l))) (s .decisions) (decisions-of c (client .number) commits ps) told-before told-now
       where
-        go : (nth (s .decisions) j ≡ Some d) ⊎ ((i : ℕ) × (nth (decisions-of c (client .number) commits ps) i ≡ Some d)) → Decides (entries N (with-fate t commits l)) d
-        go (inl old) =
+        told-before : (j : ℕ) (d : Decision) → nth (s .decisions) j ≡ Some d → Decides (entries N (with-fate t commits l)) d
+        told-before j d old =
             let was = I .tells j d old in
-            record { entry = was .entry; entered = was .entered; name = was .name; fate = fate-there (was .entry) (decided-apart (was .entry) (d .commits) (was .fate)) ∙ was .fate }
-        go (inr (i, new)) =
-            let says = decision-at c (client .number) commits ps i d new in
-            record {
-              entry = t;
-              entered = entered;
-              name = name ∙ (λ z. record { client = sym (says .0) z; number = sym (says .1) z });
-              fate = fate-here ∙ ap fate-of (sym (says .2));
-            }
+            decides-later (entries N l) (entries N (with-fate t commits l)) later d was (fate-there (was .entry) (decided-apart (was .entry) (d .commits) (was .fate)))
 
-    asks-after : (j : ℕ) (r : Request) → nth (s .requests) j ≡ Some r → Asks (entries N (with-fate t commits l)) (l .service (r .service)) r
-    asks-after j r e = let was = I .asks j r e in record { entry = was .entry; is-engaged = was .is-engaged; entered = was .entered; name = was .name; has-part = was .has-part }
+        told-now : (j : ℕ) (d : Decision) → nth (decisions-of c (client .number) commits ps) j ≡ Some d → Decides (entries N (with-fate t commits l)) d
+        told-now =
+            by-map (Decides (entries N (with-fate t commits l))) (λ part. record { client = c; service = part .service; number = client .number; commits = commits }) ps
+            (λ _. record { entry = t; entered = entered; name = name; fate = fate-here })
 
     done-after : All (λ a. (a .entry < l .entered) × (put-at (l .fate) t (fate-of commits) (a .entry) ≡ fate-of (a .commits))) (l .acts)
     done-after =
@@ -169,28 +148,21 @@ module _ (start : BankModel) (s : Site) (l : Ledger) (N : ℕ → Transaction) (
         all-weaker (λ u. (u < l .entered) × (l .fate u ≡ to-commit)) (λ u. (u < l .entered) × (put-at (l .fate) t (fate-of commits) u ≡ to-commit))
         (λ u h. (h .0, fate-there u (decided-apart u true (h .1)) ∙ h .1)) (l .line) (I .in-line)
 
-    held-after : (v : ℕ) (hold : Hold) (e : Engagement) (m : StoreModel) → Held (entries N l) v hold e m → Held (entries N (with-fate t commits l)) v hold e m
-    held-after v hold e m h = record { entry = h .entry; operations = h .operations; is-engaged = h .is-engaged; entered = h .entered; name = h .name; has-part = h .has-part; vote = h .vote; looks = h .looks; working = h .working }
-
     -- where the entry commits, none of its services is Given
     fits-after : (unrun : (v : ℕ) (operations : List Operation) → commits ≡ true → HasPart (l .parts t) v operations → nth (s .services) v ≡ Some given → ⊥) (v : ℕ) (x : Service) (m : StoreModel) → nth (s .services) v ≡ Some x → Fits (entries N l) v x (l .service v) m → Fits (entries N (with-fate t commits l)) v x (l .service v) m
-    fits-after unrun v down m e f = f
-    fits-after unrun v ready m e f = f
-    fits-after unrun v given m e f = record { entry = f .entry; operations = f .operations; is-engaged = f .is-engaged; entered = f .entered; has-part = f .has-part; unrun = λ g. never g (cases-eq (f .entry) t); closed = f .closed }
+    fits-after unrun v x m e = fits-later (entries N l) (entries N (with-fate t commits l)) later v x (l .service v) m (λ g is-given committed. never g is-given committed (cases-eq (g .entry) t))
       where
-        never : put-at (l .fate) t (fate-of commits) (f .entry) ≡ to-commit → (f .entry ≡ t) ⊎ (f .entry ≡ t → ⊥) → ⊥
-        never g (inl same) =
-            unrun v (f .operations) (fate-commits commits (sym fate-here ∙ ap (put-at (l .fate) t (fate-of commits)) (sym same) ∙ g))
-            (subst (λ u. HasPart (l .parts u) v (f .operations)) same (f .has-part)) e
-        never g (inr apart) = f .unrun (sym (fate-there (f .entry) apart) ∙ g)
-    fits-after unrun v (holding hold) m e f = held-after v hold (l .service v) m f
-    fits-after unrun v (promised hold) m e f = held-after v hold (l .service v) m f
+        never : (g : Given (entries N l) v (l .service v) m) → x ≡ given → put-at (l .fate) t (fate-of commits) (g .entry) ≡ to-commit → (g .entry ≡ t) ⊎ (g .entry ≡ t → ⊥) → ⊥
+        never g is-given committed (inl same) =
+            unrun v (g .operations) (fate-commits commits (sym fate-here ∙ ap (put-at (l .fate) t (fate-of commits)) (sym same) ∙ committed))
+            (subst (λ u. HasPart (l .parts u) v (g .operations)) same (g .has-part)) (e ∙ ap Some is-given)
+        never g is-given committed (inr apart) = g .unrun (sym (fate-there (g .entry) apart) ∙ committed)
 
     -- what another entry than this one settles, it settles still
-    settled-else : (e : Engagement) (m : StoreModel) → (e ≡ engaged t → ⊥) → settled-store (with-fate t commits l) e m ≡ settled-store l e m
+    settled-else : (e : Engagement) (m : StoreModel) → (e ≡ engaged t → ⊥) → settled-pairs (with-fate t commits l) e m ≡ settled-pairs l e m
     settled-else off m n = refl
     settled-else on m n = refl
-    settled-else (engaged u) m n = ap (λ f. record { capacity = m .capacity; committed = settled-by f m; trial = None }) (fate-there u (λ same. n (ap engaged same)))
+    settled-else (engaged u) m n = ap (λ f. settled-by f m) (fate-there u (λ same. n (ap engaged same)))
 
     -- what the law says of the line, once it is known, makes the invariant
     after-decision : (unrun : (v : ℕ) (operations : List Operation) → commits ≡ true → HasPart (l .parts t) v operations → nth (s .services) v ≡ Some given → ⊥)
@@ -206,7 +178,7 @@ module _ (start : BankModel) (s : Site) (l : Ledger) (N : ℕ → Transaction) (
       opens = opens-after;
       answered = answered-after;
       fits = λ v x m e f. fits-after unrun v x m e (I .fits v x m e f);
-      asks = asks-after;
+      asks = λ j r e. asks-later (entries N l) (entries N (with-fate t commits l)) later (l .service (r .service)) r (I .asks j r e);
       says = I .says;
       tells = tells-after;
       done = done-after;
@@ -216,27 +188,22 @@ module _ (start : BankModel) (s : Site) (l : Ledger) (N : ℕ → Transaction) (
     }
 
   -- ABORT: the line stays, and an undecided entry settled what an aborted one does
-  settled-aborted : (e : Engagement) (m : StoreModel) → settled-store (with-fate t false l) e m ≡ settled-store l e m
+  settled-aborted : (e : Engagement) (m : StoreModel) → settled-pairs (with-fate t false l) e m ≡ settled-pairs l e m
   settled-aborted off m = refl
   settled-aborted on m = refl
   settled-aborted (engaged u) m = go (cases-eq u t)
     where
-      go : (u ≡ t) ⊎ (u ≡ t → ⊥) → settled-store (with-fate t false l) (engaged u) m ≡ settled-store l (engaged u) m
+      go : (u ≡ t) ⊎ (u ≡ t → ⊥) → settled-pairs (with-fate t false l) (engaged u) m ≡ settled-pairs l (engaged u) m
       go (inl same) =
           let now : put-at (l .fate) t to-abort u ≡ to-abort = ap (put-at (l .fate) t to-abort) same ∙ fate-here false in
           let was : l .fate u ≡ undecided = ap (l .fate) same ∙ pending in
-          ap (λ f. record { capacity = m .capacity; committed = settled-by f m; trial = None }) now
-          ∙ sym (ap (λ f. record { capacity = m .capacity; committed = settled-by f m; trial = None }) was)
+          ap (λ f. settled-by f m) now ∙ sym (ap (λ f. settled-by f m) was)
       go (inr apart) = settled-else false (engaged u) m (λ e. let same : u ≡ t = cc in apart same)
 
   aborted : Inv start (decided-site c client ps false s) (with-fate t false l) N
   aborted =
-      after-decision false (λ v operations e. grind arith) (in-line-after false) (same-right start l t false (l .line) (I .right))
-      (λ v. ap (λ ms. nth ms v) (same-file start l t false (l .line)) ∙ I .settled v ∙ by-store v (nth (s .stores) v))
-    where
-      by-store : (v : ℕ) (o : Option StoreModel) → mapped (settled-store l (l .service v)) o ≡ mapped (settled-store (with-fate t false l) (l .service v)) o
-      by-store v None = refl
-      by-store v (Some m) = ap Some (sym (settled-aborted (l .service v) m))
+      after-decision false (λ v operations e. grind arith) (in-line-after false) (same-right l (with-fate t false l) start (l .line) (same-line false) (I .right))
+      (λ v. ap (λ ms. nth ms v) (same-file l (with-fate t false l) start (l .line) (same-line false)) ∙ I .settled v ∙ sym (settled-alike l (with-fate t false l) (l .service v) (l .service v) (nth (s .stores) v) (settled-aborted (l .service v))))
 
   -- COMMIT: every part is answered
   distinct : Distinct (l .parts t)
@@ -320,8 +287,8 @@ module _ (start : BankModel) (s : Site) (l : Ledger) (N : ℕ → Transaction) (
 
     right-committed : LineRight (with-fate t true l) start (t ∷ l .line)
     right-committed = (
-      subst (PartsRight (l .noted t) 0 (l .parts t)) (sym (same-file start l t true (l .line))) (parts-right (l .noted t) 0 (l .parts t) (single-file l start (l .line)) apart all-closed each-is-right),
-      same-right start l t true (l .line) (I .right),
+      subst (PartsRight (l .noted t) 0 (l .parts t)) (sym (same-file l (with-fate t true l) start (l .line) (same-line true))) (parts-right (l .noted t) 0 (l .parts t) (single-file l start (l .line)) apart all-closed each-is-right),
+      same-right l (with-fate t true l) start (l .line) (same-line true) (I .right),
     )
 
     settled-committed : (v : ℕ) → nth (commit-parts (l .parts t) (single-file l start (l .line))) v ≡ mapped (settled-store (with-fate t true l) (l .service v)) (nth (s .stores) v)
@@ -331,9 +298,9 @@ module _ (start : BankModel) (s : Site) (l : Ledger) (N : ℕ → Transaction) (
         elsewhere none None e = refl
         elsewhere none (Some m) e =
             let (x, serves) = beside (s .stores) (s .services) v m (sym (k .services)) e in
-            ap Some (sym (settled-else true (l .service v) m (λ is.
+            ap (λ pairs. Some (record { capacity = m .capacity; committed = pairs; trial = None })) (sym (settled-else true (l .service v) m (λ is.
             let has = part-engaged v x m is (I .fits v x m serves e) in
-            no-part v (l .parts t) (has .1 .place) (has .1 .part) (has .1 .there) (has .1 .service) none)))
+            at-place (λ p. p .service ≢ v) (l .parts t) (has .1 .place) (has .1 .part) none (has .1 .there) (has .1 .service))))
 
         go : ((operations : List Operation) × HasPart (l .parts t) v operations) ⊎ Elsewhere v (l .parts t) → nth (commit-parts (l .parts t) (single-file l start (l .line))) v ≡ mapped (settled-store (with-fate t true l) (l .service v)) (nth (s .stores) v)
         go (inl (operations, has)) =
@@ -353,7 +320,7 @@ module _ (start : BankModel) (s : Site) (l : Ledger) (N : ℕ → Transaction) (
     committed : Inv start (decided-site c client ps true s) (with-fate t true l) N
     committed =
         after-decision true never-given ((entered, fate-here true), in-line-after true) right-committed
-        (λ v. ap (λ ms. nth (commit-parts (l .parts t) ms) v) (same-file start l t true (l .line)) ∙ settled-committed v)
+        (λ v. ap (λ ms. nth (commit-parts (l .parts t) ms) v) (same-file l (with-fate t true l) start (l .line) (same-line true)) ∙ settled-committed v)
 
   decided-either : (commits : Bool) → (commits ≡ true → all-replied ps ≡ true) → Inv start (decided-site c client ps commits s) (with-fate t commits l) N
   decided-either true all = committed (all refl)
@@ -369,4 +336,4 @@ decide-keeps c wish start s l N k I =
     (λ _ _. (N, I)))
   where
     P : Outcome → Type 0
-    P o = (M : ℕ → Transaction) × Inv start (o .next) (add (length (s .services)) (DECIDE c wish) (o .answer) l) M
+    P = KeptAfter start s l (DECIDE c wish)

@@ -1,49 +1,41 @@
 -- The law of every run: it holds at the opening, every call keeps what it rests on, and it follows from that.
-use Prim.Native.Nat.{ℕ, zero, suc, _<_, _≤_}
+use Prim.Native.Nat.{ℕ, zero, suc, _<_}
 use mathlib.Core.Path.{_≡_, refl, ap, sym, subst, _∙_}
-use mathlib.Core.Bool.{Bool, true, false, cond}
-use mathlib.Core.List.{List, [], _∷_, map}
+use mathlib.Core.Bool.{Bool, true, false}
+use mathlib.Core.List.{List, [], _∷_}
 use native.Mathlib.Omega.{arith}
 use lib.ListN.{length, replicate, length-replicate}
 use Rattle.std.proofs.shelf.Elements.{all-weaker}
-use Rattle.std.specs.Options.{isSome, mapped}
+use Rattle.std.specs.Options.{mapped}
 use Rattle.std.specs.Runs.{nth}
 use Rattle.std.specs.declared.option.Option.{Option}
 use Rattle.std.specs.declared.option.Option.the-variants.{Some, None}
-use Rattle.std.specs.shelf.Lists.{All}
 use Rattle.stores.specs.Pairs.{Pairs}
 use Rattle.stores.specs.Store.{StoreModel, Trial, roll-back-step}
-use Rattle.banks.specs.Bank.{BankModel, SoundBank}
+use Rattle.banks.specs.Bank.{BankModel}
 use Rattle.banks.specs.Sweeps.{each-store}
 use Rattle.protocol.specs.Kept.{Kept}
-use Rattle.protocol.specs.Law.{Law, LawOfEveryRun, Obeyed, Told, tell, settled-pairs}
+use Rattle.protocol.specs.Law.{Law, LawOfEveryRun, Obeyed, tell, settled-pairs}
 use Rattle.protocol.specs.Ledger.{Ledger, Engagement, Act, blank, add}
 use Rattle.protocol.specs.Ledger.Fate.{to-commit, to-abort}
 use Rattle.protocol.specs.Runs.{Call, perform}
 use Rattle.protocol.specs.Runs.Call.{ORDER, SEND, GET, EXPIRE, DECIDE, READY, DOWN, WORK, REPLY, HEAR}
-use Rattle.protocol.specs.Site.{Site, Client, OpenPart, Service, Transaction, opened-site}
+use Rattle.protocol.specs.Site.{Site, Service, Transaction, opened-site}
 use Rattle.protocol.specs.Site.Service.{down}
-use Rattle.protocol.proofs.Invariant.{Inv, Keeps, Fits, named, entries, settled-store, fate-of}
 use Rattle.protocol.proofs.DecideLeaf.{decide-keeps}
 use Rattle.protocol.proofs.GetLeaf.{get-keeps, expire-keeps}
 use Rattle.protocol.proofs.HearLeaf.{hear-keeps}
+use Rattle.protocol.proofs.Invariant.{Inv, Keeps, Fits, named, entries, settled-store, fate-of}
+use Rattle.protocol.proofs.KeptFacts.{idle-clients, kept-opened, after-call}
+use Rattle.protocol.proofs.OpenTrials.{closed-rest}
 use Rattle.protocol.proofs.OrderLeaf.{order-keeps}
 use Rattle.protocol.proofs.ReplyLeaf.{reply-keeps}
 use Rattle.protocol.proofs.SendLeaf.{send-keeps}
 use Rattle.protocol.proofs.ServiceLeaves.{ready-keeps, down-keeps}
+use Rattle.protocol.proofs.Tables.{none-is-some, by-map}
 use Rattle.protocol.proofs.WorkLeaf.{work-keeps}
-use Rattle.protocol.proofs.KeptFacts.{kept-opened, kept-call}
-use Rattle.protocol.proofs.SizesStay.{services-stay}
 
-none-is-some : {X : Type 0} {A : Type 0} (x : X) → _≡_ {A = Option X} None (Some x) → A
-none-is-some x e = let z : _≡_ {A = ℕ} 0 1 = cc in absurd (omega arith)
-
-idle-clients : (firsts : List ℕ) (c : ℕ) (k : Client) → nth (map (λ first. record { number = first; parts = None }) firsts) c ≡ Some k → k .parts ≡ None
-idle-clients [] c k e = none-is-some k e
-idle-clients (first ∷ firsts) zero k e = let same : record { number = first; parts = None } ≡ k = cc in sym (ap (λ x. x .parts) same)
-idle-clients (first ∷ firsts) (suc c) k e = idle-clients firsts c k e
-
-down-services : (n v : ℕ) (x : Service) → nth (replicate n down) v ≡ Some x → x ≡ down
+pub down-services : (n v : ℕ) (x : Service) → nth (replicate n down) v ≡ Some x → x ≡ down
 down-services zero v x e = none-is-some x e
 down-services (suc n) zero x e = cc
 down-services (suc n) (suc v) x e = down-services n v x e
@@ -52,23 +44,16 @@ rolled-back : (capacity : ℕ) (committed : Pairs) (o : Option Trial) → roll-b
 rolled-back capacity committed None = refl
 rolled-back capacity committed (Some t) = refl
 
-closed-stores : (stores : BankModel) (v : ℕ) (m : StoreModel) → nth (each-store roll-back-step stores) v ≡ Some m → m .trial ≡ None
-closed-stores [] v m e = none-is-some m e
-closed-stores (x ∷ stores) zero m e =
-    let same : roll-back-step x .next ≡ m = cc in
-    sym (ap (λ y. y .trial) same) ∙ rolled-back (x .capacity) (x .committed) (x .trial)
-closed-stores (x ∷ stores) (suc v) m e = closed-stores stores v m e
+pub closed-stores : (stores : BankModel) (v : ℕ) (m : StoreModel) → nth (each-store roll-back-step stores) v ≡ Some m → m .trial ≡ None
+closed-stores stores = by-map (λ m. m .trial ≡ None) (λ m. roll-back-step m .next) stores (λ m. rolled-back (m .capacity) (m .committed) (m .trial))
 
--- a closed store is settled
-settled-closed : (m : StoreModel) → m .trial ≡ None → m ≡ settled-store blank (blank .service 0) m
-settled-closed m closed = λ i. record { capacity = m .capacity; committed = m .committed; trial = closed i }
-
+-- closed stores are settled
 settled-all : (stores : BankModel) → ((v : ℕ) (m : StoreModel) → nth stores v ≡ Some m → m .trial ≡ None) → (v : ℕ) → nth stores v ≡ mapped (settled-store blank (blank .service v)) (nth stores v)
 settled-all stores closed v = go (nth stores v) refl
   where
     go : (o : Option StoreModel) → nth stores v ≡ o → o ≡ mapped (settled-store blank (blank .service v)) o
     go None e = refl
-    go (Some m) e = ap (λ x. Some x) (settled-closed m (closed v m e))
+    go (Some m) e = ap Some (sym (closed-rest m (closed v m e)))
 
 no-names : ℕ → Transaction
 no-names t = named 0 0
@@ -95,7 +80,7 @@ obeyed-act : (l : Ledger) (a : Act) → (a .entry < l .entered) × (l .fate (a .
 obeyed-act l a h = go (a .commits) refl
   where
     apart : to-abort ≡ to-commit → ⊥
-    apart q = let z : _≡_ {A = ℕ} 0 1 = cc in omega arith
+    apart q = grind arith
 
     go : (b : Bool) → a .commits ≡ b → Obeyed l a
     go true e = rw (e, Obeyed) (h .1 ∙ ap fate-of e)
@@ -132,8 +117,9 @@ told-law : (start : BankModel) (services : ℕ) (calls : List Call) (s : Site) (
 told-law start services [] s l N size k I = law-from start s l N I
 told-law start services (call ∷ calls) s l N size k I =
     let next = keeps call start s l N k I in
+    let (kept, stays) = after-call call s k in
     told-law start services calls (perform call s .next) (add services call (perform call s .answer) l) (next .0)
-    (services-stay call s ∙ size) (kept-call call s k) (along-size call start s l (next .0) services size (next .1))
+    (stays ∙ size) kept (along-size call start s l (next .0) services size (next .1))
 
 pub law-of-every-run : LawOfEveryRun
 law-of-every-run firsts stores calls eight sound =

@@ -3,6 +3,7 @@ use Prim.Native.Nat.{ℕ, _<_, _≤_}
 use mathlib.Core.Path.{_≡_}
 use mathlib.Core.Bool.{Bool, true, false, cond}
 use mathlib.Core.List.{List, [], _∷_}
+use native.Mathlib.Omega.{arith}
 use lib.ListN.{length}
 use Rattle.std.specs.Options.{isSome, mapped}
 use Rattle.std.specs.Runs.{nth}
@@ -11,14 +12,14 @@ use Rattle.std.specs.declared.option.Option.the-variants.{Some, None}
 use Rattle.std.specs.shelf.Lists.{All}
 use Rattle.stores.specs.Store.{StoreModel}
 use Rattle.banks.specs.Bank.{BankModel}
-use Rattle.parts.specs.declared.votes.Vote.the-variants.{Yes}
 use Rattle.scripts.specs.declared.types.Operation.{Operation}
 use Rattle.scripts.specs.Reading.{Part}
+use Rattle.parts.specs.declared.votes.Vote.the-variants.{Yes}
 use Rattle.protocol.specs.declared.types.PartState.the-variants.{Replied}
 use Rattle.protocol.specs.Calls.{Outcome}
 use Rattle.protocol.specs.Kept.{Kept}
 use Rattle.protocol.specs.Law.{LineRight, single-file, settled-pairs}
-use Rattle.protocol.specs.Ledger.{Ledger, Fate, Engagement, Act, add}
+use Rattle.protocol.specs.Ledger.{Ledger, Fate, Engagement, add}
 use Rattle.protocol.specs.Ledger.Engagement.{off, on, engaged}
 use Rattle.protocol.specs.Ledger.Fate.{undecided, to-commit, to-abort}
 use Rattle.protocol.specs.Runs.{Call, perform}
@@ -42,6 +43,10 @@ at-rest m = record { capacity = m .capacity; committed = m .committed; trial = N
 
 abbrev pub fate-of : Bool → Fate
 fate-of commits = cond commits to-commit to-abort
+
+pub fate-decided : (commits : Bool) → fate-of commits ≡ undecided → ⊥
+fate-decided true e = grind arith
+fate-decided false e = grind arith
 
 -- an entry's part for a service: its number in the entry, and its operations
 pub record HasPart (parts : List Part) (v : ℕ) (operations : List Operation) : Type 0 where
@@ -108,12 +113,6 @@ pub record PromisedYes (services : List Service) (v : ℕ) (t : Transaction) (lo
   pub vote : hold .vote ≡ Yes
   pub looks-are : hold .looks ≡ looks
 
--- a message names an entry
-pub record Names (E : Entries) (t : Transaction) : Type 0 where
-  pub entry : ℕ
-  pub entered : entry < E .entered
-  pub name : E .name entry ≡ t
-
 -- a request is for the entry that its service is engaged with
 pub record Asks (E : Entries) (e : Engagement) (r : Request) : Type 0 where
   pub entry : ℕ
@@ -154,10 +153,10 @@ pub record Inv (start : BankModel) (s : Site) (l : Ledger) (N : ℕ → Transact
   pub right : LineRight l start (l .line)
   pub settled : (v : ℕ) → nth (single-file l start (l .line)) v ≡ mapped (settled-store l (l .service v)) (nth (s .stores) v)
 
--- the ledger once a call and its answer are added
-abbrev pub after : Call → Site → Ledger → Ledger
-after call s l = add (length (s .services)) call (perform call s .answer) l
+-- the invariant holds, under some names, of what a call's outcome leaves
+abbrev pub KeptAfter : BankModel → Site → Ledger → Call → Outcome → Type 0
+KeptAfter start s l call o = (names : ℕ → Transaction) × Inv start (o .next) (add (length (s .services)) call (o .answer) l) names
 
 -- a call keeps the invariant, under names that may have grown by one
 abbrev pub Keeps : Call → Type 0
-Keeps call = (start : BankModel) (s : Site) (l : Ledger) (N : ℕ → Transaction) → Kept s → Inv start s l N → (N′ : ℕ → Transaction) × Inv start (perform call s .next) (after call s l) N′
+Keeps call = (start : BankModel) (s : Site) (l : Ledger) (N : ℕ → Transaction) → Kept s → Inv start s l N → KeptAfter start s l call (perform call s)

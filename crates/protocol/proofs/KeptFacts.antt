@@ -1,4 +1,4 @@
--- The kept facts of every run: they hold of an opened site, and every call keeps them.
+-- The kept facts of every run: they hold of an opened site, and every call keeps them, and the number of services.
 use Prim.Native.Nat.{ℕ, zero, suc, _+_, _≤_, _<_}
 use mathlib.Core.Path.{_≡_, refl, sym, ap, subst, _∙_}
 use mathlib.Core.Bool.{Bool, true, false, cond}
@@ -8,7 +8,6 @@ use lib.Dec.{eqb, ltb}
 use lib.ListN.{length, replicate, length-set, length-map, length-replicate}
 use Rattle.std.proofs.shelf.Tests.{and-right, cases-order}
 use Rattle.std.specs.Runs.{nth}
-use Rattle.std.specs.declared.option.Option.{Option}
 use Rattle.std.specs.declared.option.Option.the-variants.{Some, None}
 use Rattle.stores.specs.Store.{begin-step, commit-step, roll-back-step}
 use Rattle.banks.specs.Bank.{BankModel, at-store}
@@ -19,20 +18,18 @@ use Rattle.scripts.proofs.Lawful.{script-laws}
 use Rattle.scripts.specs.Laws.{nth-part, LawfulParts}
 use Rattle.scripts.specs.Reading.{Part, read-script}
 use Rattle.parts.specs.Runs.{BankRun}
-use Rattle.protocol.specs.declared.types.PartState.the-variants.{Replied, TimedOut}
-use Rattle.protocol.specs.Site.{OpenPart, Client, Hold, Site, request-for, reply-for, decision-for, opened-site}
+use Rattle.protocol.specs.declared.types.PartState.the-variants.{Replied, TimedOut, Waiting}
+use Rattle.protocol.specs.Site.{OpenPart, Client, Hold, Site, request-for, reply-for, decision-for, opened-site, Slot}
 use Rattle.protocol.specs.Site.Service.{down, ready, holding, promised}
-use Rattle.protocol.specs.Calls.{Outcome, accept, heard, discarded, with-decisions, slot-of, unsent, order, send, get, expire, pending-from, decide, make-ready, make-down, run-in-trial, work, client-waits, is-for, ended, take-decision, hear, reply}
+use Rattle.protocol.specs.Calls.{Outcome, accept, heard, discarded, with-decisions, slot-of, unsent, order, send, get, expire, pending-from, decide, make-ready, make-down, run-in-trial, work, client-waits, is-for, ended, take-decision, hear, reply, with-state, posted}
 use Rattle.protocol.specs.Kept.{OpenParts, due, Kept, KeptLaws}
 use Rattle.protocol.specs.Runs.{Call, perform, play}
 use Rattle.protocol.specs.Runs.Call.{ORDER, SEND, GET, EXPIRE, DECIDE, READY, DOWN, WORK, REPLY, HEAR}
 use Rattle.protocol.proofs.Effects.{kept-decisions, kept-stores, kept-phase, kept-served, kept-idle, kept-sent, sent-waits, unsent-none, kept-answered, kept-posted, kept-replied, replied-services, open-waits}
 use Rattle.protocol.proofs.Guards.{by-option, by-result, by-test, by-state, by-phase, by-client, by-open, by-part, by-waiting, by-service, by-decision}
 use Rattle.protocol.proofs.Room.{bounds}
+use Rattle.protocol.proofs.Tables.{none-is-some, by-map}
 use Rattle.protocol.proofs.Waiting.{none-waits}
-
-none-some : {X : Type 0} (x : X) → _≡_ {A = Option X} None (Some x) → ⊥
-none-some x e = let z : _≡_ {A = ℕ} 0 1 = cc in omega arith
 
 -- a site as it is opened
 due-down : (n v : ℕ) → due (nth (replicate n down) v) ≡ 0
@@ -40,12 +37,8 @@ due-down zero v = refl
 due-down (suc n) zero = refl
 due-down (suc n) (suc v) = due-down n v
 
-first-idle : (firsts : List ℕ) (c : ℕ) (client : Client) (parts : List OpenPart) → nth (map (λ first. record { number = first; parts = None }) firsts) c ≡ Some client → client .parts ≡ Some parts → ⊥
-first-idle [] c client parts e f = grind arith
-first-idle (first ∷ firsts) zero client parts e f =
-    let idle : _≡_ {A = Client} (record { number = first; parts = None }) client = cc in
-    none-some parts (ap (λ x. x .parts) idle ∙ f)
-first-idle (first ∷ firsts) (suc c) client parts e f = first-idle firsts c client parts e f
+pub idle-clients : (firsts : List ℕ) (c : ℕ) (k : Client) → nth (map (λ first. record { number = first; parts = None }) firsts) c ≡ Some k → k .parts ≡ None
+idle-clients firsts = by-map (λ k. k .parts ≡ None) (λ first. record { number = first; parts = None }) firsts (λ _. refl)
 
 pub kept-opened : (firsts : List ℕ) (stores : BankModel) → length firsts ≡ 8 → 1 ≤ length stores → length stores ≤ 8 → Kept (opened-site firsts stores)
 kept-opened firsts stores eight some few = record {
@@ -53,7 +46,7 @@ kept-opened firsts stores eight some few = record {
   services = length-replicate (length stores) down ∙ sym (length-map stores _);
   some = rw length-replicate some;
   few = rw length-replicate few;
-  parts = λ c client parts e f. absurd (first-idle firsts c client parts e f);
+  parts = λ c client parts e f. none-is-some parts (sym (idle-clients firsts c client e) ∙ f);
   requests = λ v. sym (due-down (length stores) v);
   replies = λ slot. omega arith;
 }
@@ -77,9 +70,9 @@ open-read services parts l = record {
       omega (arith, cases-order p q);
 }
 
--- the kept facts hold of the site that a call leaves
-abbrev After : Outcome → Type 0
-After o = Kept (o .next)
+-- the kept facts hold of the site that a call leaves, and it has as many services
+abbrev pub After : Site → Outcome → Type 0
+After s o = Kept (o .next) × (length (o .next .services) ≡ length (s .services))
 
 -- a run in a trial leaves as many stores
 run-length : (v : ℕ) (operations : List Operation) (stores : BankModel) → length (run-in-trial v operations stores .next) ≡ length stores
@@ -94,95 +87,112 @@ run-length v operations stores =
     begun : length (at-store v begin-step stores .next) ≡ length stores
     begun = bank-laws .count-stays v begin-step stores
 
-kept-ended : (v : ℕ) (hold : Hold) (commits : Bool) (s : Site) → nth (s .services) v ≡ Some (promised hold) → Kept s → After (ended v commits s)
-kept-ended v hold true s there k = kept-phase v (promised hold) down _ there refl (kept-stores _ s (bank-laws .count-stays v commit-step (s .stores)) k)
-kept-ended v hold false s there k = kept-phase v (promised hold) down _ there refl (kept-stores _ s (bank-laws .count-stays v roll-back-step (s .stores)) k)
+posted-stay : (slot : Slot) (operations : List Operation) (s : Site) → length (posted slot operations s .services) ≡ length (s .services)
+posted-stay slot operations s =
+    by-option Same (nth (s .services) (slot .service)) _ _ (λ _. refl)
+    (λ service _. by-phase Same service _ _ _ _ _ (λ _. refl) (λ _. length-set _ _ _) (λ _. refl) (λ _ _. refl) (λ _ _. refl))
+  where
+    Same : Site → Type 0
+    Same t = length (t .services) ≡ length (s .services)
+
+kept-ended : (v : ℕ) (hold : Hold) (commits : Bool) (s : Site) → nth (s .services) v ≡ Some (promised hold) → Kept s → After s (ended v commits s)
+kept-ended v hold true s there k = (kept-phase v (promised hold) down _ there refl (kept-stores _ s (bank-laws .count-stays v commit-step (s .stores)) k), length-set _ _ _)
+kept-ended v hold false s there k = (kept-phase v (promised hold) down _ there refl (kept-stores _ s (bank-laws .count-stays v roll-back-step (s .stores)) k), length-set _ _ _)
 
 module _ (s : Site) (k : Kept s) where
-  pub kept-order : (c : ℕ) (script : List ℕ) → After (order c script s)
+  abbrev So : Outcome → Type 0
+  So = After s
+
+  unchanged : Kept s × (length (s .services) ≡ length (s .services))
+  unchanged = (k, refl)
+
+  kept-order : (c : ℕ) (script : List ℕ) → So (order c script s)
   kept-order c script =
-      by-client s After (λ _ _. k) c _ (λ client there.
-      by-option After (client .parts) _ _ (λ idle.
-      by-test After (eqb (client .number) 4294967295) _ _ (λ _. k) (λ _.
-      by-result After (read-script (length (s .services)) script) _ _ (λ parts accepted.
-      kept-idle c client _ s there (λ v number. rw (idle, client-waits) (and-right _ false refl)) (λ opened e. let same : map unsent parts ≡ opened = cc in subst (OpenParts (length (s .services))) same (open-read _ parts (script-laws .accepted _ script parts accepted))) k) (λ _ _. k)))
-      (λ _ _. k))
+      by-client s So (λ _ _. unchanged) c _ (λ client there.
+      by-option So (client .parts) _ _ (λ idle.
+      by-test So (eqb (client .number) 4294967295) _ _ (λ _. unchanged) (λ _.
+      by-result So (read-script (length (s .services)) script) _ _ (λ parts accepted.
+      (kept-idle c client _ s there (λ v number. rw (idle, client-waits) (and-right _ false refl)) (λ opened e. let same : map unsent parts ≡ opened = cc in subst (OpenParts (length (s .services))) same (open-read _ parts (script-laws .accepted _ script parts accepted))) k, refl)) (λ _ _. unchanged)))
+      (λ _ _. unchanged))
 
-  pub kept-send : (c p : ℕ) → After (send c p s)
+  kept-send : (c p : ℕ) → So (send c p s)
   kept-send c p =
-      by-part s After (λ _ _. k) c p _ (λ client parts part there is-open has.
-      by-state After (part .state) _ _ _ _ (λ is-unsent.
-      kept-posted (slot-of c client part) (part .operations) _ (sent-waits c p client parts part s there is-open has k) (unsent-none c p client parts part s there is-open has k is-unsent) (kept-sent c p client parts part s there is-open has k))
-      (λ _. k) (λ _. k) (λ _. k))
+      by-part s So (λ _ _. unchanged) c p _ (λ client parts part there is-open has.
+      by-state So (part .state) _ _ _ _ (λ is-unsent.
+      (kept-posted (slot-of c client part) (part .operations) _ (sent-waits c p client parts part s there is-open has k) (unsent-none c p client parts part s there is-open has k is-unsent) (kept-sent c p client parts part s there is-open has k), posted-stay (slot-of c client part) (part .operations) (with-state c p Waiting client parts part s)))
+      (λ _. unchanged) (λ _. unchanged) (λ _. unchanged))
 
-  pub kept-get : (c p room : ℕ) → After (get c p room s)
+  kept-get : (c p room : ℕ) → So (get c p room s)
   kept-get c p room =
-      by-waiting s After (λ _ _. k) c p _ (λ client parts part there is-open has _.
-      by-option After (nth-fitting reply-for (slot-of c client part) 0 (s .replies)) _ _ (λ _. k) (λ r _.
-      by-option After (r .looks) _ _ (λ _. kept-answered c p client parts part s there is-open has k TimedOut refl) (λ looks _.
-      by-test After (ltb room (length looks)) _ _ (λ _. k) (λ _. kept-answered c p client parts part s there is-open has k Replied refl))))
+      by-waiting s So (λ _ _. unchanged) c p _ (λ client parts part there is-open has _.
+      by-option So (nth-fitting reply-for (slot-of c client part) 0 (s .replies)) _ _ (λ _. unchanged) (λ r _.
+      by-option So (r .looks) _ _ (λ _. (kept-answered c p client parts part s there is-open has k TimedOut refl, refl)) (λ looks _.
+      by-test So (ltb room (length looks)) _ _ (λ _. unchanged) (λ _. (kept-answered c p client parts part s there is-open has k Replied refl, refl)))))
 
-  pub kept-expire : (c p : ℕ) → After (expire c p s)
-  kept-expire c p = by-waiting s After (λ _ _. k) c p _ (λ client parts part there is-open has _. kept-answered c p client parts part s there is-open has k TimedOut refl)
+  kept-expire : (c p : ℕ) → So (expire c p s)
+  kept-expire c p = by-waiting s So (λ _ _. unchanged) c p _ (λ client parts part there is-open has _. (kept-answered c p client parts part s there is-open has k TimedOut refl, refl))
 
-  pub kept-decide : (c : ℕ) (wish : Bool) → After (decide c wish s)
+  kept-decide : (c : ℕ) (wish : Bool) → So (decide c wish s)
   kept-decide c wish =
-      by-open s After (λ _ _. k) c _ (λ client parts there is-open.
-      by-option After (pending-from 0 parts) _ _ (λ none.
-      by-test After (ltb 64 (length (s .decisions) + length parts)) _ _ (λ _. k) (λ _.
-      kept-decisions _ _ (kept-idle c client _ s there (λ v number. open-waits client parts v number is-open ∙ and-right _ _ (none-waits 0 v parts none)) (λ opened e. absurd (none-some opened e)) k)))
-      (λ _ _. k))
+      by-open s So (λ _ _. unchanged) c _ (λ client parts there is-open.
+      by-option So (pending-from 0 parts) _ _ (λ none.
+      by-test So (ltb 64 (length (s .decisions) + length parts)) _ _ (λ _. unchanged) (λ _.
+      (kept-decisions _ _ (kept-idle c client _ s there (λ v number. open-waits client parts v number is-open ∙ and-right _ _ (none-waits 0 v parts none)) (λ opened e. none-is-some opened e) k), refl)))
+      (λ _ _. unchanged))
 
-  pub kept-ready : (v : ℕ) → After (make-ready v s)
+  kept-ready : (v : ℕ) → So (make-ready v s)
   kept-ready v =
-      by-service s After (λ _ _. k) v _ (λ service there.
-      by-phase After service _ _ _ _ _ (λ is-down. kept-phase v down ready s (there ∙ ap Some is-down) refl k) (λ _. k) (λ _. k) (λ _ _. k) (λ _ _. k))
+      by-service s So (λ _ _. unchanged) v _ (λ service there.
+      by-phase So service _ _ _ _ _ (λ is-down. (kept-phase v down ready s (there ∙ ap Some is-down) refl k, length-set _ _ _)) (λ _. unchanged) (λ _. unchanged) (λ _ _. unchanged) (λ _ _. unchanged))
 
-  pub kept-down : (v : ℕ) → After (make-down v s)
+  kept-down : (v : ℕ) → So (make-down v s)
   kept-down v =
-      by-service s After (λ _ _. k) v _ (λ service there.
-      by-phase After service _ _ _ _ _ (λ _. k) (λ is-ready. kept-phase v ready down s (there ∙ ap Some is-ready) refl k) (λ _. k) (λ _ _. k) (λ _ _. k))
+      by-service s So (λ _ _. unchanged) v _ (λ service there.
+      by-phase So service _ _ _ _ _ (λ _. unchanged) (λ is-ready. (kept-phase v ready down s (there ∙ ap Some is-ready) refl k, length-set _ _ _)) (λ _. unchanged) (λ _ _. unchanged) (λ _ _. unchanged))
 
-  pub kept-work : (v : ℕ) → After (work v s)
+  kept-work : (v : ℕ) → So (work v s)
   kept-work v =
-      by-service s After (λ _ _. k) v _ (λ service there.
-      by-phase After service _ _ _ _ _ (λ _. k) (λ _. k)
-      (λ is-given. by-option After (nth-fitting request-for v 0 (s .requests)) _ _ (λ _. k) (λ request waits.
-      kept-stores _ _ (run-length v (request .operations) (s .stores)) (kept-served v _ request s (there ∙ ap Some is-given) waits k)))
-      (λ _ _. k) (λ _ _. k))
+      by-service s So (λ _ _. unchanged) v _ (λ service there.
+      by-phase So service _ _ _ _ _ (λ _. unchanged) (λ _. unchanged)
+      (λ is-given. by-option So (nth-fitting request-for v 0 (s .requests)) _ _ (λ _. unchanged) (λ request waits.
+      (kept-stores _ _ (run-length v (request .operations) (s .stores)) (kept-served v _ request s (there ∙ ap Some is-given) waits k), length-set _ _ _)))
+      (λ _ _. unchanged) (λ _ _. unchanged))
 
-  pub kept-reply : (v : ℕ) (passed : Bool) → After (reply v passed s)
+  kept-reply : (v : ℕ) (passed : Bool) → So (reply v passed s)
   kept-reply v passed =
-      by-service s After (λ _ _. k) v _ (λ service there.
-      by-phase After service _ _ _ _ _ (λ _. k) (λ _. k) (λ _. k)
-      (λ hold is-holding. kept-phase v (holding hold) (promised hold) _ (ap (λ services. nth services v) (replied-services _ _ s) ∙ there ∙ ap Some is-holding) refl (kept-replied _ _ s k))
-      (λ _ _. k))
+      by-service s So (λ _ _. unchanged) v _ (λ service there.
+      by-phase So service _ _ _ _ _ (λ _. unchanged) (λ _. unchanged) (λ _. unchanged)
+      (λ hold is-holding. (kept-phase v (holding hold) (promised hold) _ (ap (λ services. nth services v) (replied-services _ _ s) ∙ there ∙ ap Some is-holding) refl (kept-replied _ _ s k), length-set _ _ _ ∙ ap length (replied-services _ _ s)))
+      (λ _ _. unchanged))
 
-  kept-discard : (v n : ℕ) → After (take-decision v n s (λ _ t. accept (heard discarded) t))
-  kept-discard v n = by-decision s After (λ _ _. k) v n (λ _ t. accept (heard discarded) t) (λ _ _. kept-decisions _ s k)
+  kept-discard : (v n : ℕ) → So (take-decision v n s (λ _ t. accept (heard discarded) t))
+  kept-discard v n = by-decision s So (λ _ _. unchanged) v n (λ _ t. accept (heard discarded) t) (λ _ _. (kept-decisions _ s k, refl))
 
-  pub kept-hear : (v n : ℕ) → After (hear v n s)
+  kept-hear : (v n : ℕ) → So (hear v n s)
   kept-hear v n =
-      by-service s After (λ _ _. k) v _ (λ service there.
-      by-phase After service _ _ _ _ _ (λ _. kept-discard v n) (λ _. kept-discard v n) (λ _. k) (λ _ _. k)
+      by-service s So (λ _ _. unchanged) v _ (λ service there.
+      by-phase So service _ _ _ _ _ (λ _. kept-discard v n) (λ _. kept-discard v n) (λ _. unchanged) (λ _ _. unchanged)
       (λ hold is-promised.
-      by-decision s After (λ _ _. k) v n (λ d t. cond (is-for (hold .transaction) d) (ended v (d .commits) t) (accept (heard discarded) t)) (λ d _.
+      by-decision s So (λ _ _. unchanged) v n (λ d t. cond (is-for (hold .transaction) d) (ended v (d .commits) t) (accept (heard discarded) t)) (λ d _.
       let t = with-decisions (without-nth decision-for v n (s .decisions)) s in
-      by-test After (is-for (hold .transaction) d) (ended v (d .commits) t) (accept (heard discarded) t)
+      by-test So (is-for (hold .transaction) d) (ended v (d .commits) t) (accept (heard discarded) t)
       (λ _. kept-ended v hold (d .commits) t (there ∙ ap Some is-promised) (kept-decisions _ s k))
-      (λ _. kept-decisions _ s k))))
+      (λ _. (kept-decisions _ s k, refl)))))
+
+pub after-call : (call : Call) (s : Site) → Kept s → After s (perform call s)
+after-call (ORDER c script) s k = kept-order s k c script
+after-call (SEND c p) s k = kept-send s k c p
+after-call (GET c p room) s k = kept-get s k c p room
+after-call (EXPIRE c p) s k = kept-expire s k c p
+after-call (DECIDE c wish) s k = kept-decide s k c wish
+after-call (READY v) s k = kept-ready s k v
+after-call (DOWN v) s k = kept-down s k v
+after-call (WORK v) s k = kept-work s k v
+after-call (REPLY v passed) s k = kept-reply s k v passed
+after-call (HEAR v n) s k = kept-hear s k v n
 
 pub kept-call : (call : Call) (s : Site) → Kept s → Kept (perform call s .next)
-kept-call (ORDER c script) s k = kept-order s k c script
-kept-call (SEND c p) s k = kept-send s k c p
-kept-call (GET c p room) s k = kept-get s k c p room
-kept-call (EXPIRE c p) s k = kept-expire s k c p
-kept-call (DECIDE c wish) s k = kept-decide s k c wish
-kept-call (READY v) s k = kept-ready s k v
-kept-call (DOWN v) s k = kept-down s k v
-kept-call (WORK v) s k = kept-work s k v
-kept-call (REPLY v passed) s k = kept-reply s k v passed
-kept-call (HEAR v n) s k = kept-hear s k v n
+kept-call call s k = after-call call s k .0
 
 pub kept-played : (calls : List Call) (s : Site) → Kept s → Kept (play calls s .site)
 kept-played [] s k = k

@@ -12,11 +12,15 @@ use Rattle.protocol.specs.Law.{LineRight, single-file, settled-by, settled-pai
 use Rattle.protocol.specs.Ledger.{Ledger, Engagement}
 use Rattle.protocol.specs.Ledger.Engagement.{off, on, engaged}
 use Rattle.protocol.proofs.Invariant.{settled-store}
+use Rattle.protocol.proofs.Tables.{all-at}
 
 -- another ledger with the same parts and looks for an entry
 pub record SameEntry (l m : Ledger) (t : ℕ) : Type 0 where
   pub parts : m .parts t ≡ l .parts t
   pub noted : m .noted t ≡ l .noted t
+
+pub same-entries : (l m : Ledger) (line : List ℕ) → m .parts ≡ l .parts → m .noted ≡ l .noted → All (SameEntry l m) line
+same-entries l m line parts noted = all-at (SameEntry l m) line (λ _ t _. record { parts = ap (λ table. table t) parts; noted = ap (λ table. table t) noted })
 
 module _ (l m : Ledger) (start : BankModel) where
   pub same-file : (line : List ℕ) → All (SameEntry l m) line → single-file m start line ≡ single-file l start line
@@ -26,11 +30,6 @@ module _ (l m : Ledger) (start : BankModel) where
   pub same-right : (line : List ℕ) → All (SameEntry l m) line → LineRight l start line → LineRight m start line
   same-right [] same r = tt
   same-right (t ∷ line) same r = (rw (same .0 .noted, same .0 .parts, same-file line (same .1)) (r .0), same-right line (same .1) (r .1))
-
--- what holds of everything holds of each element
-pub all-of : {X : Type 0} (P : X → Type 0) → ((x : X) → P x) → (xs : List X) → All P xs
-all-of P each [] = tt
-all-of P each (x ∷ xs) = (each x, all-of P each xs)
 
 -- settled pairs depend on fates alone
 pub same-settled : (l m : Ledger) → ((t : ℕ) → m .fate t ≡ l .fate t) → (e : Engagement) (x : StoreModel) → settled-pairs m e x ≡ settled-pairs l e x

@@ -22,7 +22,7 @@ use Rattle.protocol.proofs.Effects.{kept-sent, sent-waits, unsent-none}
 use Rattle.protocol.proofs.KeptFacts.{kept-opened, kept-played}
 use Rattle.protocol.proofs.Quiet.{Quiet, quiet-opened, quiet-played}
 use Rattle.protocol.proofs.Room.{bounds}
-use Rattle.protocol.proofs.ServiceLeaves.{also-there}
+use Rattle.protocol.proofs.Tables.{beside}
 use Rattle.protocol.proofs.Trials.{Trials, is-none, trials-opened, trials-played}
 
 -- below a list's length something stands in it
@@ -42,7 +42,7 @@ first-none (x ∷ xs) e = grind arith
 
 pub regular-from : (s : Site) → Kept s → Quiet s → Trials s → Regular s
 regular-from s k q t = record {
-  stored = λ v service e. let (m, there) = also-there (s .services) (s .stores) v service (k .services) e in ap isSome there;
+  stored = λ v service e. let (m, there) = beside (s .services) (s .stores) v service (k .services) e in ap isSome there;
   served = λ c p client parts part e f g. some-below (s .services) (part .service) (k .parts c client parts e f .known p part g);
   asked = λ v e. some-below (fitting request-for v (s .requests)) 0 (omega (arith, k .requests v, ap due e));
   closed = λ v m e f. is-none (m .trial) (t v given e m f);

@@ -1,5 +1,5 @@
 -- ORDER keeps the invariant, under names that have grown by one.
-use Prim.Native.Nat.{ℕ, zero, suc, _<_, _≤_}
+use Prim.Native.Nat.{ℕ, suc, _<_}
 use mathlib.Core.Path.{_≡_, refl, ap, sym, subst, _∙_}
 use mathlib.Core.Bool.{true, false}
 use mathlib.Core.List.{List, [], _∷_, map}
@@ -11,97 +11,23 @@ use Rattle.std.proofs.shelf.Elements.{all-weaker}
 use Rattle.std.proofs.shelf.Tests.{cases-eq}
 use Rattle.std.specs.Options.{isSome}
 use Rattle.std.specs.Runs.{nth}
-use Rattle.std.specs.declared.option.Option.{Option}
 use Rattle.std.specs.declared.option.Option.the-variants.{Some, None}
 use Rattle.std.specs.declared.result.Result.the-variants.{Ok}
 use Rattle.std.specs.shelf.Lists.{All}
-use Rattle.stores.specs.Store.{StoreModel}
 use Rattle.banks.specs.Bank.{BankModel}
 use Rattle.banks.proofs.OneStore.{nth-set-same}
-use Rattle.scripts.specs.declared.types.Operation.{Operation}
 use Rattle.scripts.specs.Reading.{Part, read-script}
-use Rattle.protocol.specs.declared.types.PartState.the-variants.{Unsent, Replied}
+use Rattle.protocol.specs.declared.types.PartState.the-variants.{Replied}
 use Rattle.protocol.specs.Calls.{Outcome, with-client, unsent}
-use Rattle.protocol.specs.Ledger.{Ledger, Engagement, put-at, enter}
+use Rattle.protocol.specs.Ledger.{Ledger, put-at, enter}
 use Rattle.protocol.specs.Ledger.Fate.{undecided, to-commit}
 use Rattle.protocol.specs.Runs.Call.{ORDER}
-use Rattle.protocol.specs.Site.{Site, Client, OpenPart, Transaction, Hold, Service, Request, Decision}
-use Rattle.protocol.specs.Site.Service.{down, ready, given, holding, promised}
+use Rattle.protocol.specs.Site.{Site, Client, OpenPart, Transaction}
 use Rattle.protocol.proofs.Guards.{by-option, by-result, by-test, by-client}
-use Rattle.protocol.proofs.Invariant.{named, AlikeParts, fate-of, HasPart, Entries, entries, Held, Fits, Open, Asks, Decides, PromisedYes, Inv, Keeps}
+use Rattle.protocol.proofs.Invariant.{named, AlikeParts, fate-of, entries, Open, PromisedYes, Inv, KeptAfter, Keeps}
+use Rattle.protocol.proofs.LaterEntries.{Later, fits-later, open-later, asks-later, decides-later}
 use Rattle.protocol.proofs.Lines.{SameEntry, same-file, same-right, same-settled, settled-alike}
-use Rattle.protocol.proofs.Pieces.{KeptAfter}
-use Rattle.protocol.proofs.Tables.{by-place, put-here, put-there}
-
--- entries that have grown: the old ones are as they were
-pub record Grown (E F : Entries) : Type 0 where
-  pub more : E .entered ≤ F .entered
-  pub name : (t : ℕ) → t < E .entered → F .name t ≡ E .name t
-  pub parts : (t : ℕ) → t < E .entered → F .parts t ≡ E .parts t
-  pub fate : (t : ℕ) → t < E .entered → F .fate t ≡ E .fate t
-
--- what is said of old entries stays true
-module _ (E F : Entries) (G : Grown E F) where
-  below : (t : ℕ) → t < E .entered → t < F .entered
-  below t low = let more = G .more in omega arith
-
-  part-grown : (t v : ℕ) (operations : List Operation) → t < E .entered → HasPart (E .parts t) v operations → HasPart (F .parts t) v operations
-  part-grown t v operations low h = subst (λ ps. HasPart ps v operations) (sym (G .parts t low)) h
-
-  held-grown : (v : ℕ) (hold : Hold) (e : Engagement) (m : StoreModel) → Held E v hold e m → Held F v hold e m
-  held-grown v hold e m h = record {
-    entry = h .entry;
-    operations = h .operations;
-    is-engaged = h .is-engaged;
-    entered = below (h .entry) (h .entered);
-    name = G .name (h .entry) (h .entered) ∙ h .name;
-    has-part = part-grown (h .entry) v (h .operations) (h .entered) (h .has-part);
-    vote = h .vote;
-    looks = h .looks;
-    working = h .working;
-  }
-
-  pub fits-grown : (v : ℕ) (x : Service) (e : Engagement) (m : StoreModel) → Fits E v x e m → Fits F v x e m
-  fits-grown v down e m f = f
-  fits-grown v ready e m f = f
-  fits-grown v given e m f = record {
-    entry = f .entry;
-    operations = f .operations;
-    is-engaged = f .is-engaged;
-    entered = below (f .entry) (f .entered);
-    has-part = part-grown (f .entry) v (f .operations) (f .entered) (f .has-part);
-    unrun = λ q. f .unrun (sym (G .fate (f .entry) (f .entered)) ∙ q);
-    closed = f .closed;
-  }
-  fits-grown v (holding hold) e m f = held-grown v hold e m f
-  fits-grown v (promised hold) e m f = held-grown v hold e m f
-
-  pub open-grown : (newest : Option ℕ) (c number : ℕ) (parts : List OpenPart) → Open E newest c number parts → Open F newest c number parts
-  open-grown newest c number parts o = record {
-    entry = o .entry;
-    is-newest = o .is-newest;
-    entered = below (o .entry) (o .entered);
-    name = G .name (o .entry) (o .entered) ∙ o .name;
-    pending = G .fate (o .entry) (o .entered) ∙ o .pending;
-    parts-alike = subst (λ ps. AlikeParts parts ps) (sym (G .parts (o .entry) (o .entered))) (o .parts-alike);
-  }
-
-  pub asks-grown : (e : Engagement) (r : Request) → Asks E e r → Asks F e r
-  asks-grown e r a = record {
-    entry = a .entry;
-    is-engaged = a .is-engaged;
-    entered = below (a .entry) (a .entered);
-    name = G .name (a .entry) (a .entered) ∙ a .name;
-    has-part = part-grown (a .entry) (r .service) (r .operations) (a .entered) (a .has-part);
-  }
-
-  pub decides-grown : (d : Decision) → Decides E d → Decides F d
-  decides-grown d h = record {
-    entry = h .entry;
-    entered = below (h .entry) (h .entered);
-    name = G .name (h .entry) (h .entered) ∙ h .name;
-    fate = G .fate (h .entry) (h .entered) ∙ h .fate;
-  }
+use Rattle.protocol.proofs.Tables.{by-place, put-here, put-there, by-map}
 
 -- a new transaction's parts are those of its script, and none is answered
 alike-unsent : (parts : List Part) → AlikeParts (map unsent parts) parts
@@ -109,13 +35,7 @@ alike-unsent [] = tt
 alike-unsent (p ∷ parts) = (refl, refl, alike-unsent parts)
 
 unsent-silent : (parts : List Part) (p : ℕ) (part : OpenPart) → nth (map unsent parts) p ≡ Some part → part .state ≡ Replied → ⊥
-unsent-silent [] p part e f = let z : _≡_ {A = ℕ} 0 1 = cc in omega arith
-unsent-silent (first ∷ parts) zero part e f =
-    let same : unsent first ≡ part = cc in
-    let is : Unsent ≡ Replied = ap (λ x. x .state) same ∙ f in
-    let z : _≡_ {A = ℕ} 0 1 = cc in
-    omega arith
-unsent-silent (first ∷ parts) (suc p) part e f = unsent-silent parts p part e f
+unsent-silent parts = by-map (λ part. part .state ≡ Replied → ⊥) unsent parts (λ _ e. grind arith)
 
 -- the ledger with one entry more
 abbrev with-entry : ℕ → List Part → Ledger → Ledger
@@ -150,12 +70,11 @@ module _ (start : BankModel) (s : Site) (l : Ledger) (N : ℕ → Transaction) (
   old-name : (t : ℕ) → t < l .entered → new-names t ≡ N t
   old-name t low = put-there N (l .entered) t new-name (λ e. omega arith)
 
-  grown : Grown (entries N l) (entries new-names new-ledger)
-  grown = record {
+  later : Later (entries N l) (entries new-names new-ledger)
+  later = record {
     more = omega arith;
     name = old-name;
     parts = λ t low. put-there (l .parts) (l .entered) t parts (λ e. omega arith);
-    fate = λ t low. refl;
   }
 
   -- an old entry of an idle client is decided
@@ -163,8 +82,7 @@ module _ (start : BankModel) (s : Site) (l : Ledger) (N : ℕ → Transaction) (
   not-idle t low mine pending =
       let was = I .pending-open t client low (ap (nth (s .clients)) mine ∙ there) pending in
       let is : false ≡ true = ap isSome (sym idle) ∙ was .1 in
-      let z : _≡_ {A = ℕ} 0 1 = cc in
-      omega arith
+      grind arith
 
   -- and so has a lower number
   lower : (t : ℕ) → t < l .entered → N t .client ≡ c → N t .number < client .number
@@ -243,7 +161,7 @@ module _ (start : BankModel) (s : Site) (l : Ledger) (N : ℕ → Transaction) (
 
   same-line : All (SameEntry l new-ledger) (l .line)
   same-line =
-      all-weaker (λ t. (t < l .entered) × (l .fate t ≡ to-commit)) (SameEntry l new-ledger) (λ t h. record { parts = grown .parts t (h .0); noted = refl }) (l .line) (I .in-line)
+      all-weaker (λ t. (t < l .entered) × (l .fate t ≡ to-commit)) (SameEntry l new-ledger) (λ t h. record { parts = later .parts t (h .0); noted = refl }) (l .line) (I .in-line)
 
   order-inv : Inv start (with-client c new-client s) new-ledger new-names
   order-inv = record {
@@ -253,17 +171,17 @@ module _ (start : BankModel) (s : Site) (l : Ledger) (N : ℕ → Transaction) (
     fresh = λ t high. I .fresh t (omega arith);
     opens = λ d k ps e f.
         by-place (λ b x. (qs : List OpenPart) → x .parts ≡ Some qs → Open (entries new-names new-ledger) (new-ledger .newest b) b (x .number) qs) (s .clients) c client new-client there open-new
-        (λ b x apart e′ qs f′. subst (λ n. Open (entries new-names new-ledger) n b (x .number) qs) (sym (put-there (l .newest) c b (Some (l .entered)) apart)) (open-grown (entries N l) (entries new-names new-ledger) grown (l .newest b) b (x .number) qs (I .opens b x qs e′ f′)))
+        (λ b x apart e′ qs f′. subst (λ n. Open (entries new-names new-ledger) n b (x .number) qs) (sym (put-there (l .newest) c b (Some (l .entered)) apart)) (open-later (entries N l) (entries new-names new-ledger) later (l .newest b) b (x .number) qs (I .opens b x qs e′ f′) refl))
         d k e ps f;
     answered = λ d t p k ps part e f g h i.
         by-place (λ b x. (qs : List OpenPart) → x .parts ≡ Some qs → nth qs p ≡ Some part → new-ledger .newest b ≡ Some t → (looks : List ℕ) × (l .noted t p ≡ Some looks) × PromisedYes (s .services) (part .service) (named b (x .number)) looks) (s .clients) c client new-client there
         (λ qs f′ g′ _. let same : qs ≡ map unsent parts = cc in absurd (unsent-silent parts p part (ap (λ x. nth x p) (sym same) ∙ g′) h))
         (λ b x apart e′ qs f′ g′ i′. I .answered b t p x qs part e′ f′ g′ h (sym (put-there (l .newest) c b (Some (l .entered)) apart) ∙ i′))
         d k e ps f g i;
-    fits = λ v x m e f. fits-grown (entries N l) (entries new-names new-ledger) grown v x (l .service v) m (I .fits v x m e f);
-    asks = λ j r e. asks-grown (entries N l) (entries new-names new-ledger) grown (l .service (r .service)) r (I .asks j r e);
+    fits = λ v x m e f. fits-later (entries N l) (entries new-names new-ledger) later v x (l .service v) m (λ g _. g .unrun) (I .fits v x m e f);
+    asks = λ j r e. asks-later (entries N l) (entries new-names new-ledger) later (l .service (r .service)) r (I .asks j r e);
     says = I .says;
-    tells = λ j d e. decides-grown (entries N l) (entries new-names new-ledger) grown d (I .tells j d e);
+    tells = λ j d e. decides-later (entries N l) (entries new-names new-ledger) later d (I .tells j d e) refl;
     done = all-weaker (λ a. (a .entry < l .entered) × (l .fate (a .entry) ≡ fate-of (a .commits))) (λ a. (a .entry < suc (l .entered)) × (l .fate (a .entry) ≡ fate-of (a .commits))) (λ a h. let low = h .0 in (omega arith, h .1)) (l .acts) (I .done);
     in-line = all-weaker (λ t. (t < l .entered) × (l .fate t ≡ to-commit)) (λ t. (t < suc (l .entered)) × (l .fate t ≡ to-commit)) (λ t h. let low = h .0 in (omega arith, h .1)) (l .line) (I .in-line);
     right = same-right l new-ledger start (l .line) same-line (I .right);

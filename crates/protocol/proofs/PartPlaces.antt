@@ -1,36 +1,61 @@
 -- Parts by place: the open parts of a transaction beside its entry's parts, and parts on distinct services.
 use Prim.Native.Nat.{ℕ, zero, suc, _+_}
 use mathlib.Core.Path.{_≡_, refl, ap, sym, _∙_}
-use mathlib.Core.Bool.{Bool, true}
-use mathlib.Core.List.{List, [], _∷_, _++_}
+use mathlib.Core.Bool.{true}
+use mathlib.Core.List.{List, [], _∷_}
 use mathlib.Core.Logic.{_≢_, _⊎_, inl, inr}
 use native.Mathlib.Omega.{arith}
-use lib.ListN.{length}
+use lib.ListN.{length, set}
 use Rattle.std.proofs.shelf.Tests.{cases-eq}
 use Rattle.std.proofs.shelf.Ways.{tells}
 use Rattle.std.specs.Runs.{nth}
 use Rattle.std.specs.declared.option.Option.{Option}
-use Rattle.std.specs.declared.option.Option.the-variants.{Some, None}
-use Rattle.std.specs.shelf.Lists.{All}
+use Rattle.std.specs.declared.option.Option.the-variants.{Some}
 use Rattle.banks.specs.Bank.{BankModel}
-use Rattle.parts.specs.declared.votes.Vote.the-variants.{Yes}
 use Rattle.scripts.specs.declared.types.Operation.{Operation}
 use Rattle.scripts.specs.Reading.{Part}
+use Rattle.parts.specs.declared.votes.Vote.the-variants.{Yes}
 use Rattle.protocol.specs.declared.types.PartState.{PartState}
 use Rattle.protocol.specs.declared.types.PartState.the-variants.{Unsent, Waiting, Replied, TimedOut}
-use Rattle.protocol.specs.Calls.{all-replied, decisions-of, run-in-trial}
+use Rattle.protocol.specs.Calls.{all-replied, run-in-trial}
 use Rattle.protocol.specs.Kept.{OpenParts}
-use Rattle.protocol.specs.Site.{OpenPart, Decision}
+use Rattle.protocol.specs.Site.{OpenPart}
 use Rattle.protocol.proofs.Invariant.{AlikeParts, HasPart}
 use Rattle.protocol.proofs.SingleFile.{Elsewhere, Apart, EachRight}
+use Rattle.protocol.proofs.Tables.{none-is-some, beside, all-at}
+use Rattle.protocol.proofs.Waiting.{in-state}
 
--- the open part that stands where an entry's part stands
+-- a script's parts do not tell states
+pub alike-set : (parts : List OpenPart) (p : ℕ) (part : OpenPart) (state : PartState) (ps : List Part) → nth parts p ≡ Some part → AlikeParts parts ps → AlikeParts (set parts p (in-state state part)) ps
+alike-set [] p part state ps e a = a
+alike-set (o ∷ os) p part state [] e a = absurd a
+alike-set (o ∷ os) zero part state (q ∷ ps) e a = let same : o ≡ part = cc in (ap (λ x. x .service) (sym same) ∙ a .0, ap (λ x. x .operations) (sym same) ∙ a .1, a .2)
+alike-set (o ∷ os) (suc p) part state (q ∷ ps) e a = (a .0, a .1, alike-set os p part state ps e (a .2))
+
+-- an open part and the entry's part at its place
+alike-long : (os : List OpenPart) (ps : List Part) → AlikeParts os ps → length os ≡ length ps
+alike-long [] [] a = refl
+alike-long [] (q ∷ ps) a = absurd a
+alike-long (o ∷ os) [] a = absurd a
+alike-long (o ∷ os) (q ∷ ps) a = ap suc (alike-long os ps (a .2))
+
+alike-at : (os : List OpenPart) (ps : List Part) (j : ℕ) (o : OpenPart) (p : Part) → AlikeParts os ps → nth os j ≡ Some o → nth ps j ≡ Some p → (p .service ≡ o .service) × (p .operations ≡ o .operations)
+alike-at [] ps j o p a e f = none-is-some o e
+alike-at (x ∷ os) [] j o p a e f = absurd a
+alike-at (x ∷ os) (y ∷ ps) zero o p a e f =
+    let mine : x ≡ o = cc in
+    let its : y ≡ p = cc in
+    (ap (λ z. z .service) (sym its) ∙ sym (a .0) ∙ ap (λ z. z .service) mine, ap (λ z. z .operations) (sym its) ∙ sym (a .1) ∙ ap (λ z. z .operations) mine)
+alike-at (x ∷ os) (y ∷ ps) (suc j) o p a e f = alike-at os ps j o p (a .2) e f
+
+pub entry-part : (os : List OpenPart) (ps : List Part) (j : ℕ) (o : OpenPart) → AlikeParts os ps → nth os j ≡ Some o → (p : Part) × (nth ps j ≡ Some p) × (p .service ≡ o .service) × (p .operations ≡ o .operations)
+entry-part os ps j o a e =
+    let (p, f) = beside os ps j o (alike-long os ps a) e in
+    let (service, does) = alike-at os ps j o p a e f in
+    (p, f, service, does)
+
 pub open-part : (os : List OpenPart) (ps : List Part) (j : ℕ) (p : Part) → AlikeParts os ps → nth ps j ≡ Some p → (o : OpenPart) × (nth os j ≡ Some o) × (o .service ≡ p .service)
-open-part [] [] j p a e = grind arith
-open-part [] (q ∷ ps) j p a e = absurd a
-open-part (o ∷ os) [] j p a e = absurd a
-open-part (o ∷ os) (q ∷ ps) zero p a e = let same : q ≡ p = cc in (o, refl, a .0 ∙ ap (λ x. x .service) same)
-open-part (o ∷ os) (q ∷ ps) (suc j) p a e = open-part os ps j p (a .2) e
+open-part os ps j p a f = let (o, e) = beside ps os j p (sym (alike-long os ps a)) f in (o, e, sym (alike-at os ps j o p a e f .0))
 
 -- where all have replied each has
 pub replied-at : (os : List OpenPart) (j : ℕ) (o : OpenPart) → all-replied os ≡ true → nth os j ≡ Some o → o .state ≡ Replied
@@ -54,11 +79,6 @@ distinct-alike services os ps o a i j p q e f same =
     let (y, there, alike) = open-part os ps j q a f in
     o .apart i j x y here there (like ∙ same ∙ sym alike)
 
--- what holds at each place holds of all
-pub all-at : {X : Type 0} (P : X → Type 0) (xs : List X) → ((j : ℕ) (x : X) → nth xs j ≡ Some x → P x) → All P xs
-all-at P [] each = tt
-all-at P (x ∷ xs) each = (each 0 x refl, all-at P xs (λ j. each (suc j)))
-
 pub apart-distinct : (ps : List Part) → Distinct ps → Apart ps
 apart-distinct [] d = tt
 apart-distinct (p ∷ ps) d = (
@@ -81,29 +101,3 @@ find-part v (p ∷ ps) = go (cases-eq (p .service) v) (find-part v ps)
     go (inl same) rest = inl (p .operations, record { place = 0; part = p; there = refl; service = same; does = refl })
     go (inr other) (inl (operations, h)) = inl (operations, record { place = suc (h .place); part = h .part; there = h .there; service = h .service; does = h .does })
     go (inr other) (inr e) = inr (other, e)
-
-pub no-part : (v : ℕ) (ps : List Part) (j : ℕ) (p : Part) → nth ps j ≡ Some p → p .service ≡ v → Elsewhere v ps → ⊥
-no-part v [] j p e same a = grind arith
-no-part v (q ∷ ps) zero p e same a = let alike : q ≡ p = cc in a .0 (ap (λ x. x .service) alike ∙ same)
-no-part v (q ∷ ps) (suc j) p e same a = no-part v ps j p e same (a .1)
-
--- as long a list has something at each place that the other has
-pub beside : {X Y : Type 0} (xs : List X) (ys : List Y) (i : ℕ) (x : X) → length xs ≡ length ys → nth xs i ≡ Some x → (y : Y) × (nth ys i ≡ Some y)
-beside [] ys i x same e = grind arith
-beside (z ∷ xs) [] i x same e = absurd (omega arith)
-beside (z ∷ xs) (y ∷ ys) zero x same e = (y, refl)
-beside (z ∷ xs) (y ∷ ys) (suc i) x same e = beside xs ys i x (omega arith) e
-
--- what stands in two lists joined stands in one of them
-pub in-either : {X : Type 0} (xs ys : List X) (j : ℕ) (x : X) → nth (xs ++ ys) j ≡ Some x → (nth xs j ≡ Some x) ⊎ ((i : ℕ) × (nth ys i ≡ Some x))
-in-either [] ys j x e = inr (j, e)
-in-either (z ∷ xs) ys zero x e = inl e
-in-either (z ∷ xs) ys (suc j) x e = in-either xs ys j x e
-
--- the decisions of a transaction name it and say what was decided
-pub decision-at : (c number : ℕ) (commits : Bool) (os : List OpenPart) (j : ℕ) (d : Decision) → nth (decisions-of c number commits os) j ≡ Some d → (d .client ≡ c) × (d .number ≡ number) × (d .commits ≡ commits)
-decision-at c number commits [] j d e = grind arith
-decision-at c number commits (o ∷ os) zero d e =
-    let same : _≡_ {A = Decision} (record { client = c; service = o .service; number = number; commits = commits }) d = cc in
-    (ap (λ x. x .client) (sym same), ap (λ x. x .number) (sym same), ap (λ x. x .commits) (sym same))
-decision-at c number commits (o ∷ os) (suc j) d e = decision-at c number commits os j d e

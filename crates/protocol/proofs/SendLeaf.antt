@@ -1,14 +1,10 @@
--- SEND keeps the invariant.
+-- SEND keeps the invariant: the part waits, and its service is given the request or its client a timeout.
 use Prim.Native.Nat.{ℕ, _<_}
 use mathlib.Core.Path.{_≡_, refl, ap, sym, subst, _∙_}
 use mathlib.Core.List.{List}
-use mathlib.Core.Logic.{_≢_, _⊎_, inl, inr}
 use native.Mathlib.Omega.{arith}
-use lib.ListN.{length}
-use Rattle.std.proofs.shelf.Tests.{cases-eq}
 use Rattle.std.specs.Runs.{nth}
 use Rattle.std.specs.declared.option.Option.the-variants.{Some, None}
-use Rattle.std.specs.shelf.Lists.{All}
 use Rattle.stores.specs.Store.{StoreModel}
 use Rattle.banks.specs.Bank.{BankModel}
 use Rattle.pools.specs.Pools.{put-last}
@@ -16,19 +12,20 @@ use Rattle.scripts.specs.Reading.{Part}
 use Rattle.protocol.specs.declared.types.PartState.the-variants.{Waiting}
 use Rattle.protocol.specs.Calls.{Outcome, with-service, with-requests, with-replies, with-state, slot-of, posted}
 use Rattle.protocol.specs.Kept.{Kept}
-use Rattle.protocol.specs.Law.{settled-by, settled-pairs}
-use Rattle.protocol.specs.Ledger.{Ledger, put-at, with-engagement, engage, sent}
+use Rattle.protocol.specs.Ledger.{Ledger, with-engagement, engage, sent}
 use Rattle.protocol.specs.Ledger.Engagement.{off, on, engaged}
 use Rattle.protocol.specs.Ledger.Fate.{undecided, to-commit}
 use Rattle.protocol.specs.Runs.Call.{SEND}
-use Rattle.protocol.specs.Site.{Site, Client, OpenPart, Transaction, Hold, Service, Request, Reply}
+use Rattle.protocol.specs.Site.{Site, Client, OpenPart, Transaction, Service, Request, Reply}
 use Rattle.protocol.specs.Site.Service.{down, ready, given, holding, promised}
+use Rattle.protocol.proofs.Effects.{kept-sent}
 use Rattle.protocol.proofs.Guards.{by-option, by-state, by-phase, by-part}
-use Rattle.protocol.proofs.Invariant.{named, HasPart, entries, Fits, Asks, Open, Inv, Keeps}
-use Rattle.protocol.proofs.Lines.{SameEntry, same-file, same-right, all-of, same-settled, settled-alike}
-use Rattle.protocol.proofs.Pieces.{KeptAfter, nth-below, nth-as-long, by-last, promise-stays, message-keeps, alike-at, state-keeps}
-use Rattle.protocol.proofs.Room.{bounds}
-use Rattle.protocol.proofs.Tables.{by-place, put-here, put-there}
+use Rattle.protocol.proofs.Invariant.{named, HasPart, entries, Fits, Asks, Open, Inv, KeptAfter, Keeps}
+use Rattle.protocol.proofs.PartPlaces.{entry-part}
+use Rattle.protocol.proofs.Phases.{asks-stay, phase-keeps}
+use Rattle.protocol.proofs.Pieces.{message-keeps, state-keeps}
+use Rattle.protocol.proofs.Tables.{none-is-some, nth-below, beside, put-here, put-there}
+use Rattle.protocol.proofs.Taking.{by-last}
 
 -- what the ledger makes of it
 sent-is : (l : Ledger) (c p t v : ℕ) (part : Part) → l .newest c ≡ Some t → nth (l .parts t) p ≡ Some part → part .service ≡ v → sent c p l ≡ engage t v l
@@ -43,83 +40,38 @@ engage-off l t v e = rw (e, engage) refl
 engage-engaged : (l : Ledger) (t v u : ℕ) → l .service v ≡ engaged u → engage t v l ≡ l
 engage-engaged l t v u e = rw (e, engage) refl
 
--- a service engaged anew with an entry that is not to commit has the settled pairs that it had
-engaged-settled : (l : Ledger) (t v u : ℕ) (x : StoreModel) → l .service v ≡ on → l .fate t ≡ undecided → settled-pairs (with-engagement v (engaged t) l) (put-at (l .service) v (engaged t) u) x ≡ settled-pairs l (l .service u) x
-engaged-settled l t v u x is-on pending = go (cases-eq u v)
-  where
-    m : Ledger
-    m = with-engagement v (engaged t) l
-
-    go : (u ≡ v) ⊎ (u ≡ v → ⊥) → settled-pairs m (put-at (l .service) v (engaged t) u) x ≡ settled-pairs l (l .service u) x
-    go (inl here) =
-        ap (λ w. settled-pairs m (put-at (l .service) v (engaged t) w) x) here
-        ∙ ap (λ e. settled-pairs m e x) (put-here (l .service) v (engaged t))
-        ∙ ap (λ f. settled-by f x) pending
-        ∙ ap (λ e. settled-pairs l e x) (sym is-on)
-        ∙ ap (λ w. settled-pairs l (l .service w) x) (sym here)
-    go (inr apart) =
-        ap (λ e. settled-pairs m e x) (put-there (l .service) v u (engaged t) apart)
-        ∙ same-settled l m (λ _. refl) (l .service u) x
-
 -- a request of an entry for a Ready service
-module _ (start : BankModel) (s : Site) (l : Ledger) (N : ℕ → Transaction) (r : Request) (t : ℕ) (there : nth (s .services) (r .service) ≡ Some ready) (low : t < l .entered) (name : N t ≡ named (r .client) (r .number)) (pending : l .fate t ≡ undecided) (has-part : HasPart (l .parts t) (r .service) (r .operations)) (is-on : l .service (r .service) ≡ on) (asked : (i : ℕ) (x : Request) → nth (s .requests) i ≡ Some x → nth (s .services) (x .service) ≡ Some given) (I : Inv start s l N) where
-  unpromised : (h : Hold) → ready ≢ promised h
-  unpromised h e = let z : _≡_ {A = ℕ} 0 1 = cc in omega arith
-
+module _ (start : BankModel) (s : Site) (l : Ledger) (N : ℕ → Transaction) (r : Request) (t : ℕ) (there : nth (s .services) (r .service) ≡ Some ready) (low : t < l .entered) (name : N t ≡ named (r .client) (r .number)) (pending : l .fate t ≡ undecided) (has-part : HasPart (l .parts t) (r .service) (r .operations)) (is-on : l .service (r .service) ≡ on) (k : Kept s) (I : Inv start s l N) where
   abbrev engaging : Ledger
   engaging = with-engagement (r .service) (engaged t) l
 
   request-keeps : Inv start (with-service (r .service) given (with-requests (put-last 8 r (s .requests)) s)) engaging N
-  request-keeps = record {
-    unique = I .unique;
-    pending-open = I .pending-open;
-    decided-past = I .decided-past;
-    fresh = I .fresh;
-    opens = I .opens;
-    answered = λ c u p k ps part e f g h i. let was = I .answered c u p k ps part e f g h i in (was .0, was .1, promise-stays (s .services) (r .service) (part .service) ready given (named c (k .number)) (was .0) there unpromised (was .2));
-    fits = λ u x m e f. by-place (λ w y. (n : StoreModel) → nth (s .stores) w ≡ Some n → Fits (entries N l) w y (engaging .service w) n) (s .services) (r .service) ready given there fits-here (λ w y apart g n h. subst (λ e′. Fits (entries N l) w y e′ n) (sym (put-there (l .service) (r .service) w (engaged t) apart)) (I .fits w y n g h)) u x e m f;
-    asks = by-last (λ x. Asks (entries N l) (engaging .service (x .service)) x) 8 r (s .requests) asks-here asks-there;
-    says = λ j x looks e f. promise-stays (s .services) (r .service) (x .service) ready given (named (x .client) (x .number)) looks there unpromised (I .says j x looks e f);
-    tells = I .tells;
-    done = I .done;
-    in-line = I .in-line;
-    right = same-right l engaging start (l .line) same (I .right);
-    settled = λ u. ap (λ stores. nth stores u) (same-file l engaging start (l .line) same) ∙ I .settled u ∙ sym (settled-alike l engaging (l .service u) (engaging .service u) (nth (s .stores) u) (λ x. engaged-settled l t (r .service) u x is-on pending));
-  }
+  request-keeps =
+      phase-keeps start s l N (r .service) ready given (put-last 8 r (s .requests)) (engaging .service) k I there (λ h e. grind arith) (λ u other. put-there (l .service) (r .service) u (engaged t) other)
+      (λ m f. (fits-here m (f .1), rw (put-here (l .service) (r .service) (engaged t), pending, is-on) refl))
+      (by-last (λ x. Asks (entries N l) (engaging .service (x .service)) x) 8 r (s .requests) asks-here (asks-stay start s l N (r .service) ready (engaged t) k I there (λ e. grind arith)))
     where
-      same : All (SameEntry l engaging) (l .line)
-      same = all-of (SameEntry l engaging) (λ _. record { parts = refl; noted = refl }) (l .line)
-
       uncommitted : l .fate t ≡ to-commit → ⊥
-      uncommitted e = let z : _≡_ {A = ℕ} 0 1 = cc in omega arith
+      uncommitted e = grind arith
 
-      fits-here : (n : StoreModel) → nth (s .stores) (r .service) ≡ Some n → Fits (entries N l) (r .service) given (engaging .service (r .service)) n
-      fits-here n f = record {
+      fits-here : (n : StoreModel) → n .trial ≡ None → Fits (entries N l) (r .service) given (engaging .service (r .service)) n
+      fits-here n closed = record {
         entry = t;
         operations = r .operations;
         is-engaged = put-here (l .service) (r .service) (engaged t);
         entered = low;
         has-part = has-part;
         unrun = uncommitted;
-        closed = I .fits (r .service) ready n there f .1;
+        closed = closed;
       }
 
       asks-here : Asks (entries N l) (engaging .service (r .service)) r
       asks-here = record { entry = t; is-engaged = put-here (l .service) (r .service) (engaged t); entered = low; name = name; has-part = has-part }
 
-      asks-there : (j : ℕ) (x : Request) → nth (s .requests) j ≡ Some x → Asks (entries N l) (engaging .service (x .service)) x
-      asks-there j x e = subst (λ e′. Asks (entries N l) e′ x) (sym (put-there (l .service) (r .service) (x .service) (engaged t) apart)) (I .asks j x e)
-        where
-          apart : x .service ≢ r .service
-          apart q =
-              let is : Some ready ≡ Some given = sym there ∙ ap (nth (s .services)) (sym q) ∙ asked j x e in
-              let z : _≡_ {A = ℕ} 0 1 = cc in
-              omega arith
-
 -- an unsent part is sent
 module _ (start : BankModel) (s : Site) (l : Ledger) (N : ℕ → Transaction) (k : Kept s) (I : Inv start s l N) (c p : ℕ) (client : Client) (parts : List OpenPart) (part : OpenPart) (there : nth (s .clients) c ≡ Some client) (is-open : client .parts ≡ Some parts) (has : nth parts p ≡ Some part) where
   waiting-keeps : Inv start (with-state c p Waiting client parts part s) l N
-  waiting-keeps = state-keeps start s l N c p client parts part Waiting there is-open has (λ e. let z : _≡_ {A = ℕ} 0 1 = cc in omega arith) I
+  waiting-keeps = state-keeps start s l N I c p client parts part there is-open has Waiting (λ e. grind arith)
 
   -- the ledger engages its service, if it is on
   posted-keeps : Inv start (posted (slot-of c client part) (part .operations) (with-state c p Waiting client parts part s)) (sent c p l) N
@@ -148,20 +100,18 @@ module _ (start : BankModel) (s : Site) (l : Ledger) (N : ℕ → Transaction) (
       waiting = with-state c p Waiting client parts part s
 
       mine : (q : Part) × (nth (l .parts t) p ≡ Some q) × (q .service ≡ v) × (q .operations ≡ part .operations)
-      mine = alike-at parts p part (l .parts t) has (open-entry .parts-alike)
+      mine = entry-part parts (l .parts t) p part (open-entry .parts-alike) has
 
       engages : sent c p l ≡ engage t v l
       engages = sent-is l c p t v (mine .0) (open-entry .is-newest) (mine .1) (mine .2)
 
       missing : nth (s .services) v ≡ None → ⊥
       missing none =
-          let some = nth-below (s .services) v (k .parts c client parts there is-open .known p part has) in
-          let is : None ≡ Some (some .0) = sym none ∙ some .1 in
-          let z : _≡_ {A = ℕ} 0 1 = cc in
-          omega arith
+          let (service, some) = nth-below (s .services) v (k .parts c client parts there is-open .known p part has) in
+          none-is-some service (sym none ∙ some)
 
       store : (service : Service) → nth (s .services) v ≡ Some service → (m : StoreModel) × (nth (s .stores) v ≡ Some m)
-      store service at = nth-as-long (s .services) (s .stores) v service (k .services) at
+      store service at = beside (s .services) (s .stores) v service (k .services) at
 
       fit : (service phase : Service) (at : nth (s .services) v ≡ Some service) → service ≡ phase → Fits (entries N l) v phase (l .service v) (store service at .0)
       fit service phase at is = I .fits v phase (store service at .0) (at ∙ ap Some is) (store service at .1)
@@ -175,12 +125,12 @@ module _ (start : BankModel) (s : Site) (l : Ledger) (N : ℕ → Transaction) (
       timeout : engage t v l ≡ l → So (with-replies (put-last 32 message (s .replies)) waiting)
       timeout stays =
           subst (λ x. Inv start (with-replies (put-last 32 message (s .replies)) waiting) x N) (sym (engages ∙ stays))
-          (message-keeps start waiting l N message (λ looks e. let z : _≡_ {A = ℕ} 0 1 = cc in absurd (omega arith)) waiting-keeps)
+          (message-keeps start waiting l N message (λ looks e. grind arith) waiting-keeps)
 
       asked : nth (s .services) v ≡ Some ready → l .service v ≡ on → So (with-service v given (with-requests (put-last 8 request (s .requests)) waiting))
       asked at is-on =
           subst (λ x. Inv start (with-service v given (with-requests (put-last 8 request (s .requests)) waiting)) x N) (sym (engages ∙ engage-on l t v is-on))
-          (request-keeps start waiting l N request t at (open-entry .entered) (open-entry .name) (open-entry .pending) (record { place = p; part = mine .0; there = mine .1; service = mine .2; does = mine .3 }) is-on (bounds s k .asked) waiting-keeps)
+          (request-keeps start waiting l N request t at (open-entry .entered) (open-entry .name) (open-entry .pending) (record { place = p; part = mine .0; there = mine .1; service = mine .2; does = mine .3 }) is-on (kept-sent c p client parts part s there is-open has k) waiting-keeps)
 
 pub send-keeps : (c p : ℕ) → Keeps (SEND c p)
 send-keeps c p start s l N k I =

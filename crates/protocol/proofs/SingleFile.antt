@@ -1,30 +1,30 @@
 -- The single-file run, part by part: a part concerns the store of its service alone.
-use Prim.Native.Nat.{ℕ, zero, suc, _+_, _<_, _≤_}
+use Prim.Native.Nat.{ℕ, zero, suc}
 use mathlib.Core.Path.{_≡_, refl, ap, sym, _∙_}
-use mathlib.Core.Bool.{Bool, true, false}
 use mathlib.Core.List.{List, [], _∷_}
 use mathlib.Core.Logic.{_≢_}
 use native.Mathlib.Omega.{arith}
-use lib.ListN.{length, set}
+use lib.ListN.{set}
 use lib.Seq.{set-set}
 use Rattle.std.specs.Runs.{nth}
 use Rattle.std.specs.declared.option.Option.{Option}
 use Rattle.std.specs.declared.option.Option.the-variants.{Some, None}
-use Rattle.std.specs.declared.result.Result.{Result}
 use Rattle.std.specs.declared.result.Result.the-variants.{Ok, Err}
 use Rattle.std.specs.shelf.Lists.{All}
+use Rattle.std.proofs.shelf.Elements.{all-weaker}
 use Rattle.stores.specs.Pairs.{Pairs}
-use Rattle.stores.specs.Store.{StoreModel, Trial, Step, begin-step, commit-step}
+use Rattle.stores.specs.Store.{StoreModel, Trial, begin-step, commit-step}
 use Rattle.banks.specs.Bank.{BankModel, BankStep, at-store, from-store}
-use Rattle.banks.proofs.Joined.{at-some, at-none}
+use Rattle.banks.proofs.Joined.{at-some}
 use Rattle.banks.proofs.OneStore.{nth-set-same, nth-set-other}
+use Rattle.scripts.specs.declared.types.Operation.{Operation}
+use Rattle.scripts.specs.Reading.{Part}
 use Rattle.parts.specs.declared.votes.Vote.the-variants.{Yes, No}
 use Rattle.parts.specs.declared.votes.Cause.the-variants.{ByBank}
 use Rattle.parts.specs.Runs.{BankRun, PartRun, run-part, run-part-at}
-use Rattle.scripts.specs.declared.types.Operation.{Operation}
-use Rattle.scripts.specs.Reading.{Part}
 use Rattle.protocol.specs.Calls.{run-in-trial}
 use Rattle.protocol.specs.Law.{commit-part, commit-parts, PartsRight}
+use Rattle.protocol.proofs.Tables.{at-place}
 
 -- a part run in a trial begun on a store
 abbrev pub tried : List Operation → StoreModel → PartRun
@@ -121,13 +121,7 @@ all-closed-along [] stores others c a = tt
 all-closed-along (p ∷ ps) stores others c a = (closed-along (p .service) stores others (c .0) (a .0), all-closed-along ps stores others (c .1) (a .1))
 
 alike-after : (p : Part) (ps : List Part) (stores : BankModel) → Closed (p .service) stores → Elsewhere (p .service) ps → Alike ps stores (commit-part p stores)
-alike-after p [] stores c e = tt
-alike-after p (q ∷ ps) stores c e = (commit-other p stores c (q .service) (λ same. e .0 (sym same)), alike-after p ps stores c (e .1))
-
-alike-at : (j : ℕ) (p : Part) (ps : List Part) (stores others : BankModel) → nth ps j ≡ Some p → Alike ps stores others → nth others (p .service) ≡ nth stores (p .service)
-alike-at j p [] stores others e a = grind arith
-alike-at zero p (q ∷ ps) stores others e a = let same : q ≡ p = cc in rw same at (a .0)
-alike-at (suc j) p (q ∷ ps) stores others e a = alike-at j p ps stores others e (a .1)
+alike-after p ps stores c e = all-weaker (λ q. q .service ≢ p .service) (λ q. nth (commit-part p stores) (q .service) ≡ nth stores (q .service)) (λ q other. commit-other p stores c (q .service) (λ same. other (sym same))) ps e
 
 -- parts on distinct services do not disturb one another: run one after the other they are as right as each alone
 pub parts-right : (noted : ℕ → Option (List ℕ)) (i : ℕ) (ps : List Part) (stores : BankModel) → Apart ps → AllClosed ps stores → EachRight noted i ps stores → PartsRight noted i ps stores
@@ -158,4 +152,4 @@ commit-parts-there zero p (q ∷ ps) stores m e there closed apart c =
     ∙ nth-set-same stores (p .service) m (kept (p .operations) m) there
 commit-parts-there (suc j) p (q ∷ ps) stores m e there closed apart c =
     let alike = alike-after q ps stores (c .0) (apart .0) in
-    commit-parts-there j p ps (commit-part q stores) m e (alike-at j p ps stores (commit-part q stores) e alike ∙ there) closed (apart .1) (all-closed-along ps stores (commit-part q stores) (c .1) alike)
+    commit-parts-there j p ps (commit-part q stores) m e (at-place (λ x. nth (commit-part q stores) (x .service) ≡ nth stores (x .service)) ps j p alike e ∙ there) closed (apart .1) (all-closed-along ps stores (commit-part q stores) (c .1) alike)

@@ -1,4 +1,4 @@
--- What is left of a pool once a message is taken, and what was taken, stood in the pool.
+-- Pools: what is left once a message is taken, and what was taken, stood there; what is put in stands there last.
 use Prim.Native.Nat.{ℕ, zero, suc}
 use mathlib.Core.Path.{_≡_, refl}
 use mathlib.Core.Bool.{Bool, true, false, cond}
@@ -6,8 +6,10 @@ use mathlib.Core.List.{List, [], _∷_, _++_}
 use native.Mathlib.Omega.{arith}
 use Rattle.std.specs.Runs.{nth}
 use Rattle.std.specs.declared.option.Option.the-variants.{Some}
-use Rattle.pools.specs.Pools.{nth-fitting, without-nth}
+use Rattle.pools.specs.Pools.{nth-fitting, without-nth, put-last, has-room}
 use Rattle.pools.proofs.Laws.{taking-splits}
+use Rattle.protocol.proofs.Guards.{by-test}
+use Rattle.protocol.proofs.Tables.{by-append, by-one}
 
 -- the message stands in the pool
 pub record Found {M : Type 0} (m : M) (ms : List M) : Type 0 where
@@ -42,3 +44,8 @@ module _ {M P : Type 0} (meets : M → P → Bool) (party : P) where
       go true each f = record { place = suc j; there = f }
       go false each f = found-after m x (without-nth meets party zero ms) ms each j f
   left-found (suc n) m (x ∷ ms) j e = found-after m x (without-nth meets party (cond (meets x party) n (suc n)) ms) ms (left-found (cond (meets x party) n (suc n)) m ms) j e
+
+-- what holds of the message put last and of the others holds of every one
+pub by-last : {X : Type 0} (P : X → Type 0) (size : ℕ) (m : X) (xs : List X) → P m → ((j : ℕ) (x : X) → nth xs j ≡ Some x → P x) → (j : ℕ) (x : X) → nth (put-last size m xs) j ≡ Some x → P x
+by-last P size m xs here others =
+    by-test (λ ys. (j : ℕ) (x : _) → nth ys j ≡ Some x → P x) (has-room size xs) _ _ (λ _. by-append P xs (m ∷ []) others (by-one P m here)) (λ _. others)

@@ -27,13 +27,12 @@ use Rattle.protocol.specs.Kept.{Kept}
 use Rattle.protocol.specs.Never.{held-slot}
 use Rattle.protocol.specs.Runs.{Call, perform, play}
 use Rattle.protocol.specs.Runs.Call.{ORDER, SEND, GET, EXPIRE, DECIDE, READY, DOWN, WORK, REPLY, HEAR}
+use Rattle.protocol.proofs.EveryRun.{closed-stores, down-services}
 use Rattle.protocol.proofs.Guards.{by-option, by-result, by-test, by-state, by-phase, by-client, by-open, by-part, by-waiting, by-service, by-decision}
-use Rattle.protocol.proofs.HearLeaf.{tried-open}
+use Rattle.protocol.proofs.OpenTrials.{working-open, tried-rest, closed-rest}
 use Rattle.protocol.proofs.KeptFacts.{kept-call}
-use Rattle.protocol.proofs.ServiceLeaves.{also-there}
 use Rattle.protocol.proofs.SingleFile.{tried, in-trial-is}
-use Rattle.protocol.proofs.Tables.{by-place}
-use Rattle.protocol.proofs.WorkLeaf.{tried-rest, closed-rest}
+use Rattle.protocol.proofs.Tables.{by-place, beside}
 
 -- whether a service has worked and not yet heard
 abbrev pub at-work : Service → Bool
@@ -76,28 +75,17 @@ roll-back-closed capacity committed None = refl
 roll-back-closed capacity committed (Some t) = refl
 
 -- a site as it is opened
-opened-idle : (n v : ℕ) (x : Service) → nth (replicate n down) v ≡ Some x → at-work x ≡ false
-opened-idle zero v x e = grind arith
-opened-idle (suc n) zero x e = let same : down ≡ x = cc in sym (ap at-work same)
-opened-idle (suc n) (suc v) x e = opened-idle n v x e
-
-opened-closed : (stores : BankModel) (v : ℕ) (m : StoreModel) → nth (each-store roll-back-step stores) v ≡ Some m → isSome (m .trial) ≡ false
-opened-closed [] v m e = grind arith
-opened-closed (x ∷ stores) zero m e =
-    let same : roll-back-step x .next ≡ m = cc in
-    sym (ap (λ y. isSome (y .trial)) same) ∙ roll-back-closed (x .capacity) (x .committed) (x .trial)
-opened-closed (x ∷ stores) (suc v) m e = opened-closed stores v m e
-
 pub trials-opened : (firsts : List ℕ) (stores : BankModel) → Trials (opened-site firsts stores)
-trials-opened firsts stores v x e m f = opened-closed stores v m f ∙ sym (opened-idle (length stores) v x e)
+trials-opened firsts stores v x e m f =
+    ap isSome (closed-stores stores v m f) ∙ sym (ap at-work (down-services (length stores) v x e))
 
 -- a service works: its trial is begun, and stays open
 trials-worked : (v : ℕ) (hold : Hold) (operations : List Operation) (s : Site) → nth (s .services) v ≡ Some given → Kept s → Trials s → TrialsAmong (set (s .services) v (holding hold)) (run-in-trial v operations (s .stores) .next)
 trials-worked v hold operations s there k t =
-    let (m, stored) = also-there (s .services) (s .stores) v given (k .services) there in
+    let (m, stored) = beside (s .services) (s .stores) v given (k .services) there in
     let closed = is-none (m .trial) (t v given there m stored) in
     let is = ap (λ r. r .next) (in-trial-is v operations (s .stores) m stored closed) in
-    let (trial, is-open) = tried-open operations (tried operations m .next) (ap (λ x. tried operations x .next) (sym (tried-rest operations m ∙ closed-rest m closed))) in
+    let (trial, is-open) = working-open operations (tried operations m .next) (ap (λ x. tried operations x .next) (sym (tried-rest operations m ∙ closed-rest m closed))) in
     trials-moved v given (holding hold) (s .services) (s .stores) _ there
     (λ n e.
     let now : Some (tried operations m .next) ≡ Some n = sym (ap (λ l. nth l v) is ∙ nth-set-same (s .stores) v m (tried operations m .next) stored) ∙ e in
@@ -108,7 +96,7 @@ trials-worked v hold operations s there k t =
 -- a service ends what it held, and its trial is closed
 trials-stepped : (v : ℕ) (old : Service) (step : StoreModel → Step (Unit {0})) (s : Site) → ((m : StoreModel) → isSome (step m .next .trial) ≡ false) → nth (s .services) v ≡ Some old → length (s .services) ≡ length (s .stores) → Trials s → TrialsAmong (set (s .services) v down) (at-store v step (s .stores) .next)
 trials-stepped v old step s closes there size t =
-    let (m, stored) = also-there (s .services) (s .stores) v old size there in
+    let (m, stored) = beside (s .services) (s .stores) v old size there in
     trials-moved v old down (s .services) (s .stores) _ there
     (λ n e.
     let now : Some (step m .next) ≡ Some n = sym (bank-laws .next-is-store's v step (s .stores) m stored) ∙ e in

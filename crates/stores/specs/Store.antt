@@ -36,9 +36,11 @@ refuse why m = record { answer = Err why; next = m }
 abbrev pub accept : StoreModel → Step (Unit {0})
 accept m = record { answer = Ok tt; next = m }
 
+-- the trial closed, with these pairs committed
 abbrev pub with-committed : Pairs → StoreModel → StoreModel
 with-committed pairs m = record { capacity = m .capacity; committed = pairs; trial = None }
 
+-- the trial open, with these working pairs and changes
 abbrev pub with-trial : Trial → StoreModel → StoreModel
 with-trial t m = record { capacity = m .capacity; committed = m .committed; trial = Some t }
 
@@ -46,6 +48,7 @@ with-trial t m = record { capacity = m .capacity; committed = m .committed; tria
 abbrev pub visible : StoreModel → Pairs
 visible m = elim (m .trial) [ None ↦ m .committed | Some t ↦ t .working ]
 
+-- the value under a key
 abbrev pub look : ℕ → StoreModel → Option ℕ
 look key m = find key (visible m)
 
@@ -53,6 +56,7 @@ look key m = find key (visible m)
 abbrev pub look-step : ℕ → StoreModel → Step (Option ℕ)
 look-step key m = record { answer = Ok (look key m); next = m }
 
+-- a trial opened on the committed pairs, with no changes
 abbrev pub begin-step : StoreModel → Step (Unit {0})
 begin-step m =
     elim (m .trial) [
@@ -92,10 +96,11 @@ put-step key value m = in-trial (put-in (m .capacity) key value) m
 abbrev pub drop-step : ℕ → StoreModel → Step (Unit {0})
 drop-step key m = in-trial (drop-in key) m
 
--- the trial closed, with these pairs committed
+-- the working pairs become the committed ones
 abbrev pub commit-step : StoreModel → Step (Unit {0})
 commit-step m = elim (m .trial) [ None ↦ refuse TrialClosed m | Some t ↦ accept (with-committed (t .working) m) ]
 
+-- the committed pairs stay as they were
 abbrev pub roll-back-step : StoreModel → Step (Unit {0})
 roll-back-step m = elim (m .trial) [ None ↦ refuse TrialClosed m | Some _ ↦ accept (with-committed (m .committed) m) ]
 
