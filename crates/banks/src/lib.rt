@@ -1,4 +1,6 @@
 // Banks: one store, or two banks joined, is a bank of 1 to 8 stores.
+#![tactic(auto)]
+
 mod both;
 mod interface;
 mod laws;

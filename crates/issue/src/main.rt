@@ -1,5 +1,7 @@
 // Issues tokens across a vault, a shop's index and a billing count, each from a script of bytes, and
 // tells what happened.
+#![tactic(auto)]
+
 use banks::{Bank, BankRefusal, Both, One};
 use issuing::{Outcome, transact};
 use parts::{ABSENT, Cause, Ran, Vote};

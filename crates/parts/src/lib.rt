@@ -1,4 +1,6 @@
 // Parts: a part of a transaction run on the store of its service.
+#![tactic(auto)]
+
 mod looked;
 mod looks;
 mod runs;

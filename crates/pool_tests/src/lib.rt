@@ -1,4 +1,6 @@
 // Two kinds of message, at 8 and at 64 places, in pools of one text.
+#![tactic(auto)]
+
 ghost use Rattle.std.specs.Prelude.{◌≡◌, ◌+◌, length};
 ghost use Rattle.pools.specs.Pools.{held, has_room, put_answer, put_last, fitting, nth_fitting, without_nth};
 ghost use Rattle.pool_tests.specs.Kinds.{for_reader, for_desk};

@@ -1,4 +1,6 @@
 // Pools: messages wait in a lent row of places, oldest first. One text serves every kind of message.
+#![tactic(auto)]
+
 ghost use Rattle.std.specs.Prelude.{◌≡◌, ◌+◌, ◌≤◌, Bool, false, [], ◌∷◌, ◌++◌, length, None};
 ghost use Rattle.pools.specs.Laws.{PoolLaws};
 ghost use Rattle.pools.specs.Places.{waits_for, Found, Vacant, Free};
@@ -34,8 +36,8 @@ pub fn put<M: Message>(places: &mut [Option<M>], message: M) -> Result<(), Refus
 
 // Takes out the n-th oldest message, from 0, that fits a party. Its place is left as a gap, which a later `put` closes.
 pub fn take<M: Message>(places: &mut [Option<M>], party: &M::Party, n: usize) -> Option<M>
-    ensures answer { result ≡ nth_fitting meets party.now n (held places.old) }
-    ensures next { held places.new ≡ without_nth meets party.now n (held places.old) }
+    ensures answer { result ≡ nth_fitting M.meets party.now n (held places.old) }
+    ensures next { held places.new ≡ without_nth M.meets party.now n (held places.old) }
     ensures unchanged { result ≡ None → places.new ≡ places.old }
 {
     let Some(i) = place_of(places, party, n) else {
@@ -48,7 +50,7 @@ pub fn take<M: Message>(places: &mut [Option<M>], party: &M::Party, n: usize) ->
 
 // Shows the message that `take` would take out.
 pub fn nth<M: Message>(places: &[Option<M>], party: &M::Party, n: usize) -> Option<M>
-    ensures answer { result ≡ nth_fitting meets party.now n (held places.now) }
+    ensures answer { result ≡ nth_fitting M.meets party.now n (held places.now) }
 {
     match place_of(places, party, n) {
         Some(i) => places[i],
@@ -72,7 +74,7 @@ pub fn count<M: Message>(places: &[Option<M>]) -> usize
 
 // How many of them fit a party.
 pub fn count_for<M: Message>(places: &[Option<M>], party: &M::Party) -> usize
-    ensures answer { result ≡ length (fitting meets party.now (held places.now)) }
+    ensures answer { result ≡ length (fitting M.meets party.now (held places.now)) }
     ensures within { result ≤ length (held places.now) }
 {
     let mut fits = 0;
@@ -93,7 +95,7 @@ pub fn free<M: Message>(places: &[Option<M>]) -> usize
 
 // Promises the laws of putting and taking; there is nothing to run.
 pub fn pool_laws_hold<M: Message>()
-    ensures { PoolLaws meets }
+    ensures { PoolLaws M.meets }
 {}
 
 fn free_place<M: Message>(places: &[Option<M>]) -> Option<usize>
@@ -118,7 +120,7 @@ fn write_last<M: Message>(places: &mut [Option<M>], i: usize, message: M)
 
 // Where the n-th oldest message stands that fits a party.
 fn place_of<M: Message>(places: &[Option<M>], party: &M::Party, n: usize) -> Option<usize>
-    ensures { Found meets party.now n places.now result }
+    ensures { Found M.meets party.now n places.now result }
 {
     let mut older = n;
     for (i, place) in places.iter().enumerate() {
@@ -133,7 +135,7 @@ fn place_of<M: Message>(places: &[Option<M>], party: &M::Party, n: usize) -> Opt
 }
 
 fn waits_for<M: Message>(place: &Option<M>, party: &M::Party) -> bool
-    ensures { result ≡ waits_for meets party.now place.now }
+    ensures { result ≡ waits_for M.meets party.now place.now }
 {
     match place {
         Some(message) => message.fits(party),

@@ -1,4 +1,6 @@
 // The protocol: what each call of a site answers and changes, as definitions; and the law of every run.
+#![tactic(auto)]
+
 mod laws;
 mod types;
 

@@ -1,4 +1,6 @@
 // Worked examples of scripts.
+#![tactic(auto)]
+
 #[cfg(test)]
 mod accepted_cases;
 #[cfg(test)]

@@ -1,4 +1,6 @@
 // Scripts: bytes read as the parts of a transaction, each a few operations on one service.
+#![tactic(auto)]
+
 mod bounded;
 mod commands;
 mod cursor;

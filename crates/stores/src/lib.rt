@@ -1,4 +1,6 @@
 // Stores: what a store means, and two makes of it.
+#![tactic(auto)]
+
 mod interface;
 mod laws;
 mod notes;

@@ -51,7 +51,7 @@ impl Store for UndoStore {
 
     ghost sound = { λ s.
         let notes = in_use s.changes s.notes in
-        sound-rows 32 (rewound notes s.places) s.places s.changes (lit≤ tt) (lit≤ tt) (length-rewound notes s.places ∙ s.sized) s.sized s.limited };
+        sound_rows 32 (rewound notes s.places) s.places s.changes (lit≤ tt) (lit≤ tt) (length_rewound notes s.places ∙ s.sized) s.sized s.limited };
 
     fn begin(&mut self) -> Result<(), StoreRefusal> {
         if self.changes.is_some() {

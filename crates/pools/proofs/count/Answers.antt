@@ -5,12 +5,12 @@ use Rattle.std.proofs.lemmas.Bool.Decides.{nat_tests}
 use Rattle.pools.specs.Pools.{held}
 use Rattle.pools.proofs.Steps.{count_more}
 use Rattle.pools.proofs.count.Goals as goal
-use Rattle.pools.proofs.count.Goals.{then-is-some, else-is-some}
+use Rattle.pools.proofs.count.Goals.{then-is_some, else-is_some}
 
 pub loop-place-preserved : goal.loop-place-preserved
 loop-place-preserved g c =
     let more = count_more c.args.places.now c.loop-place.place-index c.place-item.result c.loop-place-test.true c.place-item.is in
-    elim c.if-is-some.branch [ then-is-some w ↦ grind (arith, nat_tests) | else-is-some w ↦ grind (arith, nat_tests) ]
+    elim c.if-is_some.branch [ then-is_some w ↦ grind (arith, nat_tests) | else-is_some w ↦ grind (arith, nat_tests) ]
 
 pub returns : goal.returns
 returns g c =

@@ -6,12 +6,12 @@ use Rattle.pools.specs.Pools.{held, fitting}
 use Rattle.pools.proofs.Laws.{fitting_le}
 use Rattle.pools.proofs.Steps.{fitting_more}
 use Rattle.pools.proofs.count_for.Goals as goal
-use Rattle.pools.proofs.count_for.Goals.{then-waits-for, else-waits-for}
+use Rattle.pools.proofs.count_for.Goals.{then-waits_for, else-waits_for}
 
 pub loop-place-preserved : goal.loop-place-preserved
 loop-place-preserved g c =
     let more = fitting_more c.args.places.now c.loop-place.place-index c.place-item.result c.loop-place-test.true c.place-item.is g.M.Message.meets c.args.party.now in
-    elim c.if-waits-for.branch [ then-waits-for w ↦ grind (arith, nat_tests) | else-waits-for w ↦ grind (arith, nat_tests) ]
+    elim c.if-waits_for.branch [ then-waits_for w ↦ grind (arith, nat_tests) | else-waits_for w ↦ grind (arith, nat_tests) ]
 
 pub returns : goal.returns
 returns g c =

@@ -8,13 +8,13 @@ use Rattle.pools.proofs.Places.{vacant}
 use Rattle.pools.proofs.Steps.{count_more}
 use Rattle.pools.proofs.free_place.Goals as goal
 
-pub returns-then-is-none : goal.returns-then-is-none
-returns-then-is-none g c = vacant _ _ _ c.loop-i-test.true c.index-places-i.is c.if-is-none.ensures
+pub returns-then-is_none : goal.returns-then-is_none
+returns-then-is_none g c = vacant _ _ _ c.loop-i-test.true c.index-places-i.is c.if-is_none.ensures
 
 pub loop-i-preserved : goal.loop-i-preserved
 loop-i-preserved g c =
     let more = count_more c.args.places.now c.loop-i.i c.index-places-i.result c.loop-i-test.true c.index-places-i.is in
-    let full = c.if-is-none.ensures in
+    let full = c.if-is_none.ensures in
     grind (arith, nat_tests)
 
 pub returns : goal.returns

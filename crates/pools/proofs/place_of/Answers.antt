@@ -8,16 +8,16 @@ use Rattle.pools.proofs.Laws.{without_none}
 use Rattle.pools.proofs.Places.{stands}
 use Rattle.pools.proofs.Steps.{fitting_more}
 use Rattle.pools.proofs.place_of.Goals as goal
-use Rattle.pools.proofs.place_of.Goals.{then-waits-for+else-older-eq0, else-waits-for}
+use Rattle.pools.proofs.place_of.Goals.{then-waits_for+else-older-eq0, else-waits_for}
 
 pub returns-then-older-eq0 : goal.returns-then-older-eq0
 returns-then-older-eq0 g c =
-    stands _ _ _ _ _ _ c.loop-i-test.true c.index-places-i.is (sym c.if-waits-for.ensures) (omega arith)
+    stands _ _ _ _ _ _ c.loop-i-test.true c.index-places-i.is (sym c.if-waits_for.ensures) (omega arith)
 
 pub loop-i-preserved : goal.loop-i-preserved
 loop-i-preserved g c =
     let more = fitting_more c.args.places.now c.loop-i.i c.index-places-i.result c.loop-i-test.true c.index-places-i.is g.M.Message.meets c.args.party.now in
-    elim c.if-waits-for.branch [ then-waits-for+else-older-eq0 w ↦ grind (arith, nat_tests) | else-waits-for w ↦ grind (arith, nat_tests) ]
+    elim c.if-waits_for.branch [ then-waits_for+else-older-eq0 w ↦ grind (arith, nat_tests) | else-waits_for w ↦ grind (arith, nat_tests) ]
 
 pub returns : goal.returns
 returns g c =

@@ -5,4 +5,4 @@ use Rattle.pools.proofs.write_last.Goals as goal
 
 pub returns : goal.returns
 returns g c =
-    put_there c.args.places.now c.args.i c.requires c.args.message _ _ (take_rest _ c.args.i) c.rotate-left.ensures.after
+    put_there c.args.places.now c.args.i c.requires c.args.message _ _ (take_rest _ c.args.i) c.rotate_left.ensures.after

@@ -8,6 +8,6 @@ returns-in-None c =
     let absent = sym c.in-None.ensures.answer in
     record {
       answer = grind arith;
-      room = ap is_some c.free-place.ensures.answer ∙ room_by c.args.key c.args.places.now c.requires absent;
-      within = c.free-place.ensures.within;
+      room = ap is_some c.free_place.ensures.answer ∙ room_by c.args.key c.args.places.now c.requires absent;
+      within = c.free_place.ensures.within;
     }

@@ -6,5 +6,5 @@ use Rattle.scripts.proofs.bounded.Script.in_use.Goals as goal
 
 pub returns : goal.returns
 returns c =
-    let count = length-map c.as-slice.result.now part_of in
+    let count = length-map c.as_slice.result.now part_of in
     record { parts = search rules; count = search rules }

@@ -5,4 +5,4 @@ use Rattle.scripts.proofs.cursor.Cursor.part.Goals as goal
 
 pub returns : goal.returns
 returns c =
-    handed _ c.args.self.now c.step.new.self c.pass-operations.new.self c.requires c.if-place-self.false c.in-ok-step.ensures c.in-ok-pass-operations.ensures refl refl refl
+    handed _ c.args.self.now c.step.new.self c.pass_operations.new.self c.requires c.if-place-self.false c.in_ok-step.ensures c.in_ok-pass_operations.ensures refl refl refl
