@@ -5,17 +5,17 @@ use Rattle.banks.proofs.Turns.{begun_refused, begun_more, told_open, told_none, 
 use Rattle.banks.proofs.sweeps.begin_all.Goals as goal
 
 -- the refused begin altered nothing, so rolling back gives the bank at entry
-pub returns-then-is-err : goal.returns-then-is-err
-returns-then-is-err g c =
+pub returns-then-is_err : goal.returns-then-is_err
+returns-then-is_err g c =
     let i = c.loop-service.service in
     let ms = g.B.Bank.stores c.args.bank.now in
     let current = g.B.Bank.stores c.loop-service.bank in
     let within : i < length ms = omega arith in
-    let refused = begun_refused i ms current c.loop-service.invariant within (ap is_err (sym c.begin.ensures.answer) ∙ sym c.if-is-err.ensures.value) in
+    let refused = begun_refused i ms current c.loop-service.invariant within (ap is_err (sym c.begin.ensures.answer) ∙ sym c.if-is_err.ensures.value) in
     let told = told_open ms i refused.0 in
     record {
       answer = sym told.0;
-      next = c.roll-back-first.ensures.first
+      next = c.roll_back_first.ensures.first
           ∙ ap (first_stores roll_back_step i) (c.begin.ensures.next ∙ refused.1 ∙ c.loop-service.invariant.begun)
           ∙ c.loop-service.invariant.back
           ∙ sym told.1;
@@ -27,7 +27,7 @@ loop-service-preserved g c =
     let ms = g.B.Bank.stores c.args.bank.now in
     let current = g.B.Bank.stores c.loop-service.bank in
     let within : i < length ms = omega arith in
-    along i ms c.begin.ensures.next (begun_more i ms current c.loop-service.invariant within (ap is_err (sym c.begin.ensures.answer) ∙ sym c.if-is-err.ensures.value))
+    along i ms c.begin.ensures.next (begun_more i ms current c.loop-service.invariant within (ap is_err (sym c.begin.ensures.answer) ∙ sym c.if-is_err.ensures.value))
 
 pub returns : goal.returns
 returns g c =

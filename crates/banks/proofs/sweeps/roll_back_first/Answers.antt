@@ -8,7 +8,7 @@ use Rattle.banks.proofs.sweeps.roll_back_first.Goals as goal
 pub loop-service-preserved : goal.loop-service-preserved
 loop-service-preserved g c =
     let i = c.loop-service.service in
-    c.roll-back.ensures.next ∙ ap (λ ms. (at_store i roll_back_step ms).next) c.loop-service.invariant ∙ turn_more roll_back_step i (g.B.Bank.stores c.args.bank.now)
+    c.roll_back.ensures.next ∙ ap (λ ms. (at_store i roll_back_step ms).next) c.loop-service.invariant ∙ turn_more roll_back_step i (g.B.Bank.stores c.args.bank.now)
 
 pub returns : goal.returns
 returns g c =

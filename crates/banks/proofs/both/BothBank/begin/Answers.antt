@@ -11,10 +11,10 @@ returns-then-service-left g c =
       next = left_next c.args.service begin_step (g.L.Bank.stores b.left) (g.R.Bank.stores b.right) c.count-left.result c.count-left.ensures (g.L.Bank.stores c.begin.new.self) c.if-service-left.true few c.begin.ensures.next;
     }
 
-pub returns-then-service-lt-STORE-LIMIT : goal.returns-then-service-lt-STORE-LIMIT
-returns-then-service-lt-STORE-LIMIT g c =
+pub returns-then-service-lt-STORE_LIMIT : goal.returns-then-service-lt-STORE_LIMIT
+returns-then-service-lt-STORE_LIMIT g c =
     let b = c.args.self.now in
     record {
-      answer = right_answer c.args.service begin_step (g.L.Bank.stores b.left) (g.R.Bank.stores b.right) c.count-left.result c.count-left.ensures c.begin-then-service-lt-STORE-LIMIT.result c.if-service-left.false c.if-service-lt-STORE-LIMIT.true c.begin-then-service-lt-STORE-LIMIT.ensures.answer;
-      next = right_next c.args.service begin_step (g.L.Bank.stores b.left) (g.R.Bank.stores b.right) c.count-left.result c.count-left.ensures (g.R.Bank.stores c.begin-then-service-lt-STORE-LIMIT.new.self) c.if-service-left.false c.if-service-lt-STORE-LIMIT.true c.begin-then-service-lt-STORE-LIMIT.ensures.next;
+      answer = right_answer c.args.service begin_step (g.L.Bank.stores b.left) (g.R.Bank.stores b.right) c.count-left.result c.count-left.ensures c.begin-then-service-lt-STORE_LIMIT.result c.if-service-left.false c.if-service-lt-STORE_LIMIT.true c.begin-then-service-lt-STORE_LIMIT.ensures.answer;
+      next = right_next c.args.service begin_step (g.L.Bank.stores b.left) (g.R.Bank.stores b.right) c.count-left.result c.count-left.ensures (g.R.Bank.stores c.begin-then-service-lt-STORE_LIMIT.new.self) c.if-service-left.false c.if-service-lt-STORE_LIMIT.true c.begin-then-service-lt-STORE_LIMIT.ensures.next;
     }

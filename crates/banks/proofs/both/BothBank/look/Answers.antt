@@ -8,7 +8,7 @@ returns-then-service-left g c =
     let few = (g.met.L.Bank.sound b.left).not_many in
     left_answer c.args.service (look_step c.args.key) (g.L.Bank.stores b.left) (g.R.Bank.stores b.right) c.count-left.result c.count-left.ensures c.look.result c.if-service-left.true few c.look.ensures
 
-pub returns-then-service-lt-STORE-LIMIT : goal.returns-then-service-lt-STORE-LIMIT
-returns-then-service-lt-STORE-LIMIT g c =
+pub returns-then-service-lt-STORE_LIMIT : goal.returns-then-service-lt-STORE_LIMIT
+returns-then-service-lt-STORE_LIMIT g c =
     let b = c.args.self.now in
-    right_answer c.args.service (look_step c.args.key) (g.L.Bank.stores b.left) (g.R.Bank.stores b.right) c.count-left.result c.count-left.ensures c.look-then-service-lt-STORE-LIMIT.result c.if-service-left.false c.if-service-lt-STORE-LIMIT.true c.look-then-service-lt-STORE-LIMIT.ensures
+    right_answer c.args.service (look_step c.args.key) (g.L.Bank.stores b.left) (g.R.Bank.stores b.right) c.count-left.result c.count-left.ensures c.look-then-service-lt-STORE_LIMIT.result c.if-service-left.false c.if-service-lt-STORE_LIMIT.true c.look-then-service-lt-STORE_LIMIT.ensures

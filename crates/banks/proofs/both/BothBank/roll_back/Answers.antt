@@ -7,14 +7,14 @@ returns-then-service-left g c =
     let b = c.args.self.now in
     let few = (g.met.L.Bank.sound b.left).not_many in
     record {
-      answer = left_answer c.args.service roll_back_step (g.L.Bank.stores b.left) (g.R.Bank.stores b.right) c.count-left.result c.count-left.ensures c.roll-back.result c.if-service-left.true few c.roll-back.ensures.answer;
-      next = left_next c.args.service roll_back_step (g.L.Bank.stores b.left) (g.R.Bank.stores b.right) c.count-left.result c.count-left.ensures (g.L.Bank.stores c.roll-back.new.self) c.if-service-left.true few c.roll-back.ensures.next;
+      answer = left_answer c.args.service roll_back_step (g.L.Bank.stores b.left) (g.R.Bank.stores b.right) c.count-left.result c.count-left.ensures c.roll_back.result c.if-service-left.true few c.roll_back.ensures.answer;
+      next = left_next c.args.service roll_back_step (g.L.Bank.stores b.left) (g.R.Bank.stores b.right) c.count-left.result c.count-left.ensures (g.L.Bank.stores c.roll_back.new.self) c.if-service-left.true few c.roll_back.ensures.next;
     }
 
-pub returns-then-service-lt-STORE-LIMIT : goal.returns-then-service-lt-STORE-LIMIT
-returns-then-service-lt-STORE-LIMIT g c =
+pub returns-then-service-lt-STORE_LIMIT : goal.returns-then-service-lt-STORE_LIMIT
+returns-then-service-lt-STORE_LIMIT g c =
     let b = c.args.self.now in
     record {
-      answer = right_answer c.args.service roll_back_step (g.L.Bank.stores b.left) (g.R.Bank.stores b.right) c.count-left.result c.count-left.ensures c.roll-back-then-service-lt-STORE-LIMIT.result c.if-service-left.false c.if-service-lt-STORE-LIMIT.true c.roll-back-then-service-lt-STORE-LIMIT.ensures.answer;
-      next = right_next c.args.service roll_back_step (g.L.Bank.stores b.left) (g.R.Bank.stores b.right) c.count-left.result c.count-left.ensures (g.R.Bank.stores c.roll-back-then-service-lt-STORE-LIMIT.new.self) c.if-service-left.false c.if-service-lt-STORE-LIMIT.true c.roll-back-then-service-lt-STORE-LIMIT.ensures.next;
+      answer = right_answer c.args.service roll_back_step (g.L.Bank.stores b.left) (g.R.Bank.stores b.right) c.count-left.result c.count-left.ensures c.roll_back-then-service-lt-STORE_LIMIT.result c.if-service-left.false c.if-service-lt-STORE_LIMIT.true c.roll_back-then-service-lt-STORE_LIMIT.ensures.answer;
+      next = right_next c.args.service roll_back_step (g.L.Bank.stores b.left) (g.R.Bank.stores b.right) c.count-left.result c.count-left.ensures (g.R.Bank.stores c.roll_back-then-service-lt-STORE_LIMIT.new.self) c.if-service-left.false c.if-service-lt-STORE_LIMIT.true c.roll_back-then-service-lt-STORE_LIMIT.ensures.next;
     }
