@@ -2,8 +2,8 @@ use Rattle.std.proofs.Common.{◌≡◌, ◌+◌, ◌<◌, ◌≤◌, length, sy
 use Rattle.std.proofs.lemmas.List.{take_more_set, length_push, length-take-le}
 use Rattle.parts.proofs.looked.Looks.push.Goals as goal
 
-pub returns-then-self-lt-LOOK-LIMIT : goal.returns-then-self-lt-LOOK-LIMIT
-returns-then-self-lt-LOOK-LIMIT c =
+pub returns-then-self-lt-LOOK_LIMIT : goal.returns-then-self-lt-LOOK_LIMIT
+returns-then-self-lt-LOOK_LIMIT c =
     let s = c.args.self.now in
     let here : s.used < length s.items = omega (arith, s.sized) in
     let fits : s.used ≤ length s.items = omega arith in
