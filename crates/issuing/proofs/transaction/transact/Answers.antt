@@ -10,22 +10,22 @@ pub returns : goal.returns
 returns g c =
     let at = g.B.Bank.stores in
     let parts = parts_of c.args.script.now in
-    let begun = c.in-default.ensures.answer in
-    let t1 = told_of c.take-turn-first.result in
-    let t2 = told_of c.take-turn-second.result in
-    let t3 = told_of c.take-turn-third.result in
-    let t4 = told_of c.take-turn-fourth.result in
-    let b0 = at c.begin-all.new.bank in
-    let b1 = at c.take-turn-first.new.bank in
-    let b2 = at c.take-turn-second.new.bank in
-    let b3 = at c.take-turn-third.new.bank in
-    let b4 = at c.take-turn-fourth.new.bank in
-    let yes_all : (((c.says_yes.result && c.says-yes-2.result) && c.says-yes-3.result) && c.says-yes-4.result) ≡ (((says_yes t1 && says_yes t2) && says_yes t3) && says_yes t4) =
-    ap₂ (λ a b. a && b) (ap₂ (λ a b. a && b) (ap₂ (λ a b. a && b) c.says_yes.ensures c.says-yes-2.ensures) c.says-yes-3.ensures) c.says-yes-4.ensures in
+    let begun = c.in_default.ensures.answer in
+    let t1 = told_of c.take_turn-first.result in
+    let t2 = told_of c.take_turn-second.result in
+    let t3 = told_of c.take_turn-third.result in
+    let t4 = told_of c.take_turn-fourth.result in
+    let b0 = at c.begin_all.new.bank in
+    let b1 = at c.take_turn-first.new.bank in
+    let b2 = at c.take_turn-second.new.bank in
+    let b3 = at c.take_turn-third.new.bank in
+    let b4 = at c.take_turn-fourth.new.bank in
+    let yes_all : (((c.says_yes.result && c.says_yes-2.result) && c.says_yes-3.result) && c.says_yes-4.result) ≡ (((says_yes t1 && says_yes t2) && says_yes t3) && says_yes t4) =
+    ap₂ (λ a b. a && b) (ap₂ (λ a b. a && b) (ap₂ (λ a b. a && b) c.says_yes.ensures c.says_yes-2.ensures) c.says_yes-3.ensures) c.says_yes-4.ensures in
     record {
       answer = ap (λ y. Ok (record { told = t1 ∷ t2 ∷ t3 ∷ t4 ∷ []; committed = y })) yes_all
-          ∙ told_right parts (at c.args.bank.now) begun t1 t2 t3 t4 b0 b1 b2 b3 b4 c.begin-all.ensures.next c.take-turn-first.ensures.next c.take-turn-second.ensures.next c.take-turn-third.ensures.next c.take-turn-fourth.ensures.next c.take-turn-first.ensures.told c.take-turn-second.ensures.told c.take-turn-third.ensures.told c.take-turn-fourth.ensures.told;
+          ∙ told_right parts (at c.args.bank.now) begun t1 t2 t3 t4 b0 b1 b2 b3 b4 c.begin_all.ensures.next c.take_turn-first.ensures.next c.take_turn-second.ensures.next c.take_turn-third.ensures.next c.take_turn-fourth.ensures.next c.take_turn-first.ensures.told c.take_turn-second.ensures.told c.take_turn-third.ensures.told c.take_turn-fourth.ensures.told;
       next = c.settle.ensures
           ∙ ap (λ y. cond y (each_store commit_step b4) (each_store roll_back_step b4)) yes_all
-          ∙ next_right parts (at c.args.bank.now) begun t1 t2 t3 t4 b0 b1 b2 b3 b4 c.begin-all.ensures.next c.take-turn-first.ensures.next c.take-turn-second.ensures.next c.take-turn-third.ensures.next c.take-turn-fourth.ensures.next c.take-turn-first.ensures.told c.take-turn-second.ensures.told c.take-turn-third.ensures.told c.take-turn-fourth.ensures.told;
+          ∙ next_right parts (at c.args.bank.now) begun t1 t2 t3 t4 b0 b1 b2 b3 b4 c.begin_all.ensures.next c.take_turn-first.ensures.next c.take_turn-second.ensures.next c.take_turn-third.ensures.next c.take_turn-fourth.ensures.next c.take_turn-first.ensures.told c.take_turn-second.ensures.told c.take_turn-third.ensures.told c.take_turn-fourth.ensures.told;
     }
