@@ -1,5 +1,5 @@
 -- One store alone is concerned by a function of a bank.
-use Rattle.std.proofs.Common.{◌≡◌, ℕ, zero, suc, ◌<◌, ◌≤◌, true, ◌≢◌, List, [], ◌∷◌, length, set, is_err, Some, None, Ok, Err, Option, Result, sym, refl, ap, ◌∙◌, arith, length-set}
+use Rattle.std.proofs.Common.{◌≡◌, ℕ, zero, suc, true, ◌≢◌, List, [], ◌∷◌, length, set, is_err, Some, None, Ok, Err, Option, Result, refl, ap, ◌∙◌, arith, length-set}
 use Rattle.std.proofs.ByRecursion.{All-set}
 use Rattle.std.proofs.lemmas.Option.{slice_get_past}
 use Rattle.std.specs.List.{slice_get, AllByRecursion as All}

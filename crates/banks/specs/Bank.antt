@@ -1,5 +1,5 @@
 -- What a bank means: the list of its stores. Each function of a bank is a function of one store.
-use Rattle.std.specs.Prelude.{ℕ, ◌≤◌, List, ◌++◌, length, take, Some, None, Ok, Err, Option, Result, slice_set}
+use Rattle.std.specs.Prelude.{ℕ, ◌≤◌, List, ◌++◌, length, take, Some, None, Ok, Err, Result, slice_set}
 use Rattle.std.specs.List.{slice_get, AllByRecursion as All}
 use Rattle.stores.specs.declared.types.StoreRefusal.{StoreRefusal}
 use Rattle.stores.specs.Store.{StoreModel, Step, Sound}

@@ -1,9 +1,9 @@
 -- A store function on two banks joined is that function on the bank that has the store.
-use Rattle.std.specs.Prelude.{◌≡◌, ℕ, zero, suc, ◌-◌, ◌<◌, ◌≤◌, List, [], ◌∷◌, ◌++◌, length, take, Some, None, Ok, Err, Option, Result, slice_set, refl}
+use Rattle.std.specs.Prelude.{◌≡◌, ℕ, zero, suc, ◌-◌, ◌<◌, ◌≤◌, List, [], ◌∷◌, ◌++◌, length, take, Some, None, Err, Option, Result, slice_set, refl}
 use Rattle.std.proofs.Common.{ap, sym, ◌∙◌, arith, length-take, length-append}
 use Rattle.std.proofs.ByRecursion.{All-take, All-append}
 use Rattle.std.proofs.lemmas.List.{set-append_left, set-append_right}
-use Rattle.std.specs.List.{slice_get, AllByRecursion as All}
+use Rattle.std.specs.List.{slice_get}
 use Rattle.stores.specs.Store.{StoreModel, Step, Sound}
 use Rattle.banks.specs.declared.types.BankRefusal.{BankRefusal}
 use Rattle.banks.specs.declared.types.BankRefusal.TheVariants.{NoSuchStore}

@@ -1,5 +1,5 @@
 -- A store function on every store of a bank in turn.
-use Rattle.std.specs.Prelude.{ℕ, zero, suc, List, [], ◌∷◌, map, Some, None, Ok, Err, Option, Result}
+use Rattle.std.specs.Prelude.{ℕ, zero, suc, [], ◌∷◌, map, Some, None, Ok, Err, Option, Result}
 use Rattle.stores.specs.Store.{StoreModel, Step, begin_step}
 use Rattle.banks.specs.Bank.{BankModel}
 

@@ -1,5 +1,5 @@
 -- The turns of a script's parts, and the way back.
-use Rattle.std.proofs.Common.{◌≡◌, ℕ, Bool, true, false, cond, ◌&&◌, List, [], ◌∷◌, Some, None, Ok, Err, Option, Result, sym, refl, ap, ◌∙◌, ap₂}
+use Rattle.std.proofs.Common.{◌≡◌, Bool, true, false, cond, ◌&&◌, List, [], ◌∷◌, Some, None, Ok, Option, sym, refl, ap, ◌∙◌, ap₂}
 use Rattle.std.specs.List.{slice_get}
 use Rattle.stores.specs.Store.{commit_step, roll_back_step}
 use Rattle.banks.specs.Bank.{BankModel}
@@ -7,7 +7,7 @@ use Rattle.banks.specs.Sweeps.{each_store, begun_answer, begun_stores}
 use Rattle.banks.proofs.Turns.{all_back}
 use Rattle.scripts.specs.Reading.{Part}
 use Rattle.parts.proofs.Backs.{part_back}
-use Rattle.issuing.specs.Transaction.{Told, Turn, turn, turn_of, says_yes, Settled, Transacted, settled, run_all, transaction}
+use Rattle.issuing.specs.Transaction.{Told, Turn, turn, turn_of, says_yes, settled, transaction}
 
 turn_back : (o : Option Part) (stores : BankModel) → each_store roll_back_step (turn_of o stores).next ≡ each_store roll_back_step stores
 turn_back None stores = refl

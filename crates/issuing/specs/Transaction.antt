@@ -9,7 +9,7 @@ use Rattle.parts.specs.declared.votes.Vote.{Vote}
 use Rattle.parts.specs.declared.votes.Vote.TheVariants.{Yes, No}
 use Rattle.parts.specs.Looks.{looks_of}
 use Rattle.scripts.specs.Reading.{Part}
-use Rattle.parts.specs.Runs.{BankRun, run_part_at}
+use Rattle.parts.specs.Runs.{run_part_at}
 use Rattle.issuing.specs.declared.outcome.Outcome.{Outcome}
 
 -- what a part told: its vote and its look numbers

@@ -10,7 +10,7 @@ use Rattle.banks.proofs.Turns.{each_after}
 use Rattle.scripts.specs.declared.types.Operation.{Operation}
 use Rattle.scripts.specs.declared.types.Operation.TheVariants.{Look, Put, Need, Add, Drop}
 use Rattle.parts.specs.declared.votes.Cause.{Cause}
-use Rattle.parts.specs.Runs.{Done, PartRun, run_operation, sum_put, then_run, run_from, run_part, run_part_at}
+use Rattle.parts.specs.Runs.{PartRun, run_operation, sum_put, then_run, run_from, run_part, run_part_at}
 
 sum_back : (key value : ℕ) (o : Option ℕ) (m : StoreModel) → (roll_back_step (sum_put key value o m).next).next ≡ (roll_back_step m).next
 sum_back key value None m = refl

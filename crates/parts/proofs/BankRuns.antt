@@ -1,12 +1,12 @@
 -- A part run operation by operation through a bank is the part run on the store's meaning.
-use Rattle.std.proofs.Common.{◌≡◌, ℕ, zero, suc, ◌+◌, ◌^◌, ◌<◌, ◌≤◌, Bool, true, false, cond, ltb, List, [], ◌∷◌, ◌++◌, length, get_or, take, drop, set, Some, None, Ok, Err, Option, Result, sym, refl, ap, ◌∙◌, add-one, arith, set-set}
+use Rattle.std.proofs.Common.{◌≡◌, ℕ, zero, suc, ◌+◌, ◌^◌, ◌<◌, ◌≤◌, Bool, true, false, ltb, List, [], ◌∷◌, ◌++◌, length, get_or, take, drop, set, Some, None, Ok, Err, Option, Result, sym, refl, ap, ◌∙◌, add-one, arith, set-set}
 use Rattle.std.proofs.lemmas.List.{drop_more, drop_all, append-nil, append_assoc, take_all}
 use Rattle.std.proofs.lemmas.Option.{slice_get_past}
 use Rattle.std.specs.List.{slice_get}
 use Rattle.stores.specs.declared.types.StoreRefusal.{StoreRefusal}
 use Rattle.stores.specs.Store.{StoreModel, Step, look, look_step, put_step, drop_step}
 use Rattle.banks.specs.declared.types.BankRefusal.TheVariants.{NoSuchStore}
-use Rattle.banks.specs.Bank.{BankModel, BankStep, at_store, from_store}
+use Rattle.banks.specs.Bank.{BankModel, at_store, from_store}
 use Rattle.banks.specs.Joined.{at_some}
 use Rattle.banks.proofs.OneStore.{nth_set_same}
 use Rattle.banks.proofs.Turns.{set_nth, within_none}
@@ -14,7 +14,6 @@ use Rattle.scripts.specs.declared.types.Operation.{Operation}
 use Rattle.scripts.specs.declared.types.Operation.TheVariants.{Look, Put, Need, Add, Drop}
 use Rattle.parts.specs.declared.votes.Cause.{Cause}
 use Rattle.parts.specs.declared.votes.Cause.TheVariants.{ByBank}
-use Rattle.parts.specs.declared.votes.Vote.{Vote}
 use Rattle.parts.specs.declared.votes.Vote.TheVariants.{Yes, No}
 use Rattle.parts.specs.OnBank.{Operated, operated, by_bank_step, change_given, look_given, need_given, sum_given}
 use Rattle.parts.specs.Runs.{Done, PartRun, BankRun, run_operation, run_from, run_part, run_part_at, by_step, answered, sum_put, then_run}

@@ -1,5 +1,5 @@
 -- One operation on a bank, as the bank's functions give it. `Runs` says what it comes to.
-use Rattle.std.specs.Prelude.{ℕ, ◌+◌, ◌^◌, Bool, cond, Some, None, Ok, Err, Option, Result, nat_lt}
+use Rattle.std.specs.Prelude.{ℕ, ◌+◌, ◌^◌, cond, Some, None, Ok, Err, Option, Result, nat_lt}
 use Rattle.stores.specs.declared.types.StoreRefusal.TheVariants.{KeyAbsent}
 use Rattle.stores.specs.Store.{look_step, put_step, drop_step}
 use Rattle.banks.specs.declared.types.BankRefusal.{BankRefusal}

@@ -1,5 +1,5 @@
 -- What running a part's operations comes to, on a store's meaning alone.
-use Rattle.std.specs.Prelude.{ℕ, suc, ◌+◌, ◌^◌, Bool, false, cond, List, [], ◌∷◌, ◌++◌, Some, None, Ok, Err, Option, Result, ◌==◌, nat_lt, slice_set}
+use Rattle.std.specs.Prelude.{ℕ, suc, ◌+◌, ◌^◌, Bool, false, cond, List, [], ◌∷◌, Some, None, Ok, Err, Option, Result, ◌==◌, nat_lt, slice_set}
 use Rattle.std.specs.List.{slice_get}
 use Rattle.stores.specs.declared.types.StoreRefusal.{StoreRefusal}
 use Rattle.stores.specs.declared.types.StoreRefusal.TheVariants.{KeyAbsent}

@@ -1,10 +1,9 @@
 -- A service's trial is open just while it holds what it has worked for: it holds of an opened site, and every call keeps it.
-use Rattle.std.proofs.Common.{◌≡◌, ℕ, zero, suc, ◌+◌, Bool, true, false, cond, eqb, ltb, ◌≢◌, List, [], ◌∷◌, length, set, replicate, is_some, Some, None, Option, sym, refl, ap, ◌∙◌, arith}
+use Rattle.std.proofs.Common.{◌≡◌, ℕ, ◌+◌, Bool, true, false, cond, eqb, ltb, ◌≢◌, List, [], ◌∷◌, length, set, is_some, Some, None, Option, sym, refl, ap, ◌∙◌, arith}
 use Rattle.std.specs.List.{slice_get}
 use Rattle.stores.specs.Pairs.{Pairs}
 use Rattle.stores.specs.Store.{StoreModel, Trial, Step, commit_step, roll_back_step}
 use Rattle.banks.specs.Bank.{BankModel, at_store}
-use Rattle.banks.specs.Sweeps.{each_store}
 use Rattle.banks.proofs.OneStore.{bank_laws, nth_set_same, nth_set_other}
 use Rattle.pools.specs.Pools.{nth_fitting, without_nth}
 use Rattle.scripts.specs.declared.types.Operation.{Operation}

@@ -1,9 +1,8 @@
 -- What each of the ten calls answers, and the site after it. A refused call changes nothing.
-use Rattle.std.specs.Prelude.{ℕ, suc, ◌+◌, ◌-◌, Bool, true, false, cond, ◌&&◌, List, [], ◌∷◌, ◌++◌, map, length, is_some, Some, None, Ok, Err, Option, Result, ◌==◌, nat_lt, slice_set}
+use Rattle.std.specs.Prelude.{ℕ, suc, ◌+◌, Bool, true, false, cond, ◌&&◌, List, [], ◌∷◌, ◌++◌, map, length, is_some, Some, None, Ok, Err, Option, Result, ◌==◌, nat_lt, slice_set}
 use Rattle.std.specs.List.{slice_get}
 use Rattle.stores.specs.Store.{begin_step, commit_step, roll_back_step}
-use Rattle.banks.specs.declared.types.BankRefusal.{BankRefusal}
-use Rattle.banks.specs.Bank.{BankModel, BankStep, at_store}
+use Rattle.banks.specs.Bank.{BankModel, at_store}
 use Rattle.pools.specs.Pools.{put_last, nth_fitting, without_nth}
 use Rattle.scripts.specs.declared.types.Operation.{Operation}
 use Rattle.parts.specs.declared.votes.Cause.TheVariants.{ByBank}

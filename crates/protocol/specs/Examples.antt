@@ -1,5 +1,5 @@
 -- Worked examples: what the definitions give on given lists of calls.
-use Rattle.std.specs.Prelude.{◌≡◌, ℕ, zero, suc, Bool, true, false, List, [], ◌∷◌, replicate, Some, Ok, Err, Result}
+use Rattle.std.specs.Prelude.{◌≡◌, ℕ, zero, suc, true, false, List, [], ◌∷◌, replicate, Some, Ok, Err}
 use Rattle.stores.specs.declared.types.StoreRefusal.TheVariants.{TooManyChanges, Full}
 use Rattle.stores.specs.Pairs.{Pairs, pair}
 use Rattle.stores.specs.Store.{StoreModel, empty_store}
@@ -11,11 +11,11 @@ use Rattle.parts.specs.declared.votes.Vote.TheVariants.{Yes, No}
 use Rattle.scripts.specs.Reading.{read_script}
 use Rattle.parts.specs.Runs.{run_part}
 use Rattle.protocol.specs.declared.types.Reason.TheVariants.{NoRoom, NumbersSpent}
-use Rattle.protocol.specs.Calls.{Answer, Refusal, Heard, decide, with_decisions}
-use Rattle.protocol.specs.Calls.Answer.{ordered, done, looked, timed_out, decided, voted, heard}
-use Rattle.protocol.specs.Calls.Heard.{committed, rolled_back, discarded}
-use Rattle.protocol.specs.Runs.{Call, play}
-use Rattle.protocol.specs.Runs.Call.{ORDER, SEND, GET, EXPIRE, DECIDE, READY, DOWN, WORK, REPLY, HEAR}
+use Rattle.protocol.specs.Calls.{decide, with_decisions}
+use Rattle.protocol.specs.Calls.Answer.{ordered, done, timed_out, decided, voted, heard}
+use Rattle.protocol.specs.Calls.Heard.{rolled_back, discarded}
+use Rattle.protocol.specs.Runs.{play}
+use Rattle.protocol.specs.Runs.Call.{ORDER, SEND, GET, EXPIRE, DECIDE, READY, WORK, REPLY, HEAR}
 use Rattle.protocol.specs.Site.{Site, opened_site}
 
 -- a store of 16 pairs in a trial

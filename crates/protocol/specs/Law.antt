@@ -1,5 +1,5 @@
 -- The law of every run: what the ledger of its calls and answers has to do with the stores.
-use Rattle.std.specs.Prelude.{◌≡◌, ℕ, suc, ◌≤◌, Bool, true, false, List, [], ◌∷◌, length, Some, None, Option, Result, ◌≢◌}
+use Rattle.std.specs.Prelude.{◌≡◌, ℕ, suc, true, false, List, [], ◌∷◌, length, Some, Option, ◌≢◌}
 use Rattle.std.specs.Option.{option_map}
 use Rattle.std.specs.List.{slice_get, AllByRecursion as All}
 use Rattle.stores.specs.Pairs.{Pairs}
@@ -8,8 +8,7 @@ use Rattle.banks.specs.Bank.{BankModel, SoundBank, at_store}
 use Rattle.banks.specs.Sweeps.{each_store}
 use Rattle.parts.specs.declared.votes.Vote.TheVariants.{Yes}
 use Rattle.scripts.specs.Reading.{Part}
-use Rattle.parts.specs.Runs.{BankRun}
-use Rattle.protocol.specs.Calls.{Answer, Refusal, Outcome, run_in_trial}
+use Rattle.protocol.specs.Calls.{run_in_trial}
 use Rattle.protocol.specs.Ledger.{Ledger, Fate, Engagement, Act, blank, add}
 use Rattle.protocol.specs.Ledger.Engagement.{off, on, engaged}
 use Rattle.protocol.specs.Ledger.Fate.{undecided, to_commit, to_abort}

@@ -1,9 +1,9 @@
 -- A ledger: what a list of calls and their answers says of transactions, and nothing else. It names a
 -- transaction by the order in which ORDER entered it, never by the number that the site answered.
-use Rattle.std.specs.Prelude.{ℕ, suc, Bool, true, false, cond, List, [], ◌∷◌, map, Some, None, Ok, Err, Option, Result, ◌==◌}
+use Rattle.std.specs.Prelude.{ℕ, suc, Bool, true, false, cond, List, [], ◌∷◌, Some, None, Ok, Err, Option, Result, ◌==◌}
 use Rattle.std.specs.List.{slice_get}
 use Rattle.scripts.specs.Reading.{Part, read_script}
-use Rattle.protocol.specs.Calls.{Answer, Refusal, Heard}
+use Rattle.protocol.specs.Calls.{Answer, Refusal}
 use Rattle.protocol.specs.Calls.Answer.{ordered, done, looked, timed_out, decided, voted, heard}
 use Rattle.protocol.specs.Calls.Heard.{committed, rolled_back, discarded}
 use Rattle.protocol.specs.Runs.{Call}

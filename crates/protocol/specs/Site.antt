@@ -1,5 +1,5 @@
 -- What a site means: its clients, its services, the messages that wait between them, and the stores.
-use Rattle.std.specs.Prelude.{ℕ, Bool, ◌&&◌, List, [], ◌∷◌, map, length, replicate, Some, None, Option, ◌==◌}
+use Rattle.std.specs.Prelude.{ℕ, Bool, ◌&&◌, List, [], map, length, replicate, None, Option, ◌==◌}
 use Rattle.stores.specs.Store.{roll_back_step}
 use Rattle.banks.specs.Bank.{BankModel}
 use Rattle.banks.specs.Sweeps.{each_store}

@@ -1,12 +1,11 @@
 -- Laws of the operations on a store's meaning, for the layers above.
-use Rattle.std.proofs.Common.{◌≡◌, ℕ, ◌+◌, ◌<◌, ◌≤◌, Bool, true, false, cond, not, ◌&&◌, leb, length, is_some, is_err, Some, None, Ok, Err, Option, Result, sym, refl, ap, ◌∙◌, arith}
-use Rattle.std.proofs.lemmas.Bool.{leb-false, cond_both}
+use Rattle.std.proofs.Common.{◌≡◌, ℕ, ◌+◌, ◌<◌, ◌≤◌, true, length, is_err, Some, None, Ok, Err, Option, Result, refl, arith}
 use Rattle.std.proofs.lemmas.Bool.Decides.{nat_tests}
 use Rattle.stores.specs.declared.types.StoreRefusal.{StoreRefusal}
-use Rattle.stores.specs.Pairs.{Pairs, find, insert, erase, Ascending}
-use Rattle.stores.specs.Store.{StoreModel, Trial, Step, in_trial, changed, begin_step, put_step, drop_step, commit_step, roll_back_step, put_in, drop_in, change_limit, WithinCapacity, SoundTrial, Sound}
+use Rattle.stores.specs.Pairs.{Pairs, insert, erase}
+use Rattle.stores.specs.Store.{StoreModel, Trial, Step, in_trial, changed, begin_step, commit_step, roll_back_step, put_in, drop_in, change_limit, SoundTrial, Sound}
 use Rattle.stores.specs.Laws.{MapLaws, Lawful, StoreLaws}
-use Rattle.stores.specs.Maps.{same_maps, find_insert, find_erase, find_erase_other, length_insert_old, ascending_erase, ascending_insert, length_insert, length_insert_new, length_erase}
+use Rattle.stores.specs.Maps.{same_maps, find_insert, find_erase, find_erase_other, length_insert_old, ascending_erase, ascending_insert, length_insert, length_erase}
 
 abbrev store : ℕ → Pairs → Option Trial → StoreModel
 store capacity committed trial = record { capacity = capacity; committed = committed; trial = trial }

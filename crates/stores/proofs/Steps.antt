@@ -1,13 +1,10 @@
 -- What put and drop come to on a store that keeps its working pairs in a row of places.
-use Rattle.std.proofs.Common.{◌≡◌, ℕ, ◌+◌, ◌<◌, ◌≤◌, Bool, true, false, cond, not, ◌&&◌, leb, length, set, is_some, Some, None, Ok, Err, Option, Result, sym, refl, ap, ◌∙◌, arith}
-use Rattle.std.proofs.lemmas.Bool.{lt-leb, le-leb}
+use Rattle.std.proofs.Common.{◌≡◌, ℕ, ◌+◌, ◌<◌, true, length, set, Some, None, Ok, Option, sym, refl, arith}
 use Rattle.std.proofs.lemmas.Bool.Decides.{nat_tests}
-use Rattle.stores.specs.declared.types.StoreRefusal.{StoreRefusal}
-use Rattle.stores.specs.declared.types.StoreRefusal.TheVariants.{TooManyChanges, Full, KeyAbsent}
-use Rattle.stores.specs.Pairs.{Pairs, pair, find, insert, erase}
+use Rattle.stores.specs.Pairs.{Pairs, pair}
 use Rattle.stores.specs.Places.{Places, holds, is_free, first, place_for, contents, distinct, trial_of}
-use Rattle.stores.specs.Store.{Trial, StoreModel, Step, change_limit, put_in, drop_in, put_step, drop_step, in_trial, refuse, accept, with_trial}
-use Rattle.stores.specs.Rows.{some_kept, none_kept, contents_replace, contents_add, contents_free, distinct_replace, distinct_add, distinct_free, contents_fewer, contents_all}
+use Rattle.stores.specs.Store.{StoreModel, change_limit, put_in, drop_in, put_step, drop_step, accept}
+use Rattle.stores.specs.Rows.{some_kept, contents_replace, contents_add, contents_free, distinct_replace, distinct_add, distinct_free, contents_fewer}
 
 -- a store that keeps its working pairs in a row of places
 abbrev pub row_model : ℕ → Pairs → Places → Option ℕ → StoreModel

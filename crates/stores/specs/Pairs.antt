@@ -1,6 +1,6 @@
 -- A finite map from keys to values: a list of pairs, strictly ascending by key.
 -- So a map has just one list, and `≡` on lists is equality of maps.
-use Rattle.std.specs.Prelude.{ℕ, ◌<◌, Bool, true, false, cond, List, [], ◌∷◌, Some, None, Option, ◌==◌, nat_lt}
+use Rattle.std.specs.Prelude.{ℕ, ◌<◌, cond, List, [], ◌∷◌, Some, None, Option, ◌==◌, nat_lt}
 use Rattle.stores.specs.declared.types.Pair.{Pair}
 
 abbrev pub Pairs : Type 0

@@ -1,5 +1,5 @@
 -- Notes taken and taken back: the places before the trial stay in reach.
-use Rattle.std.specs.Prelude.{◌≡◌, ℕ, ◌+◌, ◌-◌, ◌<◌, ◌≤◌, true, List, [], ◌∷◌, ◌++◌, length, get_or, take, set, Some, None, Option, slice_index_or, slice_set, refl}
+use Rattle.std.specs.Prelude.{◌≡◌, ℕ, ◌+◌, ◌-◌, ◌<◌, ◌≤◌, List, [], ◌∷◌, ◌++◌, length, get_or, take, set, Some, None, Option, slice_index_or, slice_set, refl}
 use Rattle.std.proofs.Common.{ap, sym, ◌∙◌, arith, length-set, set-set}
 use Rattle.std.proofs.lemmas.List.{take_more, take_more_set, set-get_or}
 use Rattle.stores.specs.declared.notes.Note.{Note}

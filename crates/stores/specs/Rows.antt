@@ -1,10 +1,10 @@
 -- What a write to a row of places does to the map that it keeps.
-use Rattle.std.specs.Prelude.{◌≡◌, ℕ, zero, suc, ◌<◌, ◌≤◌, Bool, true, false, cond, not, ◌&&◌, ◌≢◌, List, [], ◌∷◌, length, is_some, Some, None, Option, slice_index_or, slice_set, refl}
+use Rattle.std.specs.Prelude.{◌≡◌, ℕ, zero, suc, ◌<◌, ◌≤◌, Bool, true, false, not, ◌≢◌, [], ◌∷◌, length, is_some, Some, None, Option, slice_index_or, slice_set, refl}
 use Rattle.std.proofs.Common.{ap, sym, ◌∙◌, arith}
 use Rattle.std.proofs.lemmas.Bool.{and_parts, not-true, leb-true}
 use Rattle.std.proofs.lemmas.Bool.Decides.{nat_tests}
 use Rattle.stores.specs.declared.types.Pair.{Pair}
-use Rattle.stores.specs.Pairs.{Pairs, pair, find, insert, erase, Ascending}
+use Rattle.stores.specs.Pairs.{pair, find, insert, erase, Ascending}
 use Rattle.stores.specs.Places.{Places, holds, is_free, later, first, contents, distinct, no_room, trial_of, in_limit}
 use Rattle.stores.specs.Store.{WithinCapacity, SoundTrial, Sound, change_limit}
 use Rattle.stores.specs.Maps.{find_insert, find_erase_other, insert_same, insert_comm, erase_insert, erase_insert_other, length_insert, length_insert_new, ascending_insert}

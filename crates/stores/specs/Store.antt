@@ -1,5 +1,5 @@
 -- What a store means, and what each operation does to that meaning.
-use Rattle.std.specs.Prelude.{ℕ, ◌+◌, ◌≤◌, Bool, cond, not, ◌&&◌, [], length, is_some, Some, None, Ok, Err, Option, Result, nat_le}
+use Rattle.std.specs.Prelude.{ℕ, ◌+◌, ◌≤◌, cond, not, ◌&&◌, [], length, is_some, Some, None, Ok, Err, Option, Result, nat_le}
 use Rattle.stores.specs.declared.types.StoreRefusal.{StoreRefusal}
 use Rattle.stores.specs.declared.types.StoreRefusal.TheVariants.{TrialClosed, TrialOpen, TooManyChanges, Full, KeyAbsent}
 use Rattle.stores.specs.Pairs.{Pairs, find, insert, erase, Ascending}

@@ -1,4 +1,4 @@
-use Rattle.std.proofs.Common.{◌≡◌, Bool, cond, ◌&&◌, [], ◌∷◌, Ok, sym, ap, ◌∙◌, ap₂}
+use Rattle.std.proofs.Common.{◌≡◌, cond, ◌&&◌, [], ◌∷◌, Ok, ap, ◌∙◌, ap₂}
 use Rattle.stores.specs.Store.{commit_step, roll_back_step}
 use Rattle.banks.specs.Sweeps.{each_store}
 use Rattle.scripts.specs.Lists.{parts_of}

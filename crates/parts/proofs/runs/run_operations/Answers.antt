@@ -1,4 +1,4 @@
-use Rattle.std.proofs.Common.{◌≡◌, ◌<◌, ◌≤◌, length, take, sym, ap, ◌∙◌, arith}
+use Rattle.std.proofs.Common.{◌≤◌, length, take, sym, ap, ◌∙◌, arith}
 use Rattle.std.proofs.lemmas.List.{length-take-le}
 use Rattle.parts.proofs.BankRuns.{going_on, going_failed, going_ended, part_alike, part_nowhere, looks_capped}
 use Rattle.parts.proofs.runs.run_operations.Goals as goal

@@ -1,4 +1,4 @@
-use Rattle.std.proofs.Common.{◌+◌, ◌<◌, length, set, Some, None, ap, ◌∙◌, arith, length-set}
+use Rattle.std.proofs.Common.{◌+◌, ◌<◌, length, set, Some, ap, ◌∙◌, arith, length-set}
 use Rattle.std.proofs.lemmas.Bool.{le-leb}
 use Rattle.stores.specs.Notes.{in_use, rewound}
 use Rattle.stores.specs.Pairs.{pair}
