@@ -2,7 +2,7 @@
 use Rattle.std.proofs.Common.{◌≡◌, ℕ, zero, suc, true, ◌≢◌, List, [], ◌∷◌, length, set, is_err, Some, None, Ok, Err, Option, Result, refl, ap, ◌∙◌, arith, length-set}
 use Rattle.std.proofs.ByRecursion.{All-set}
 use Rattle.std.proofs.lemmas.Option.{slice_get_past}
-use Rattle.std.specs.List.{slice_get, AllByRecursion as All}
+use Rattle.std.specs.List.{slice_get, AllByRecursion}
 use Rattle.stores.specs.Laws.{Lawful}
 use Rattle.stores.specs.Store.{StoreModel, Step, Sound}
 use Rattle.stores.specs.declared.types.StoreRefusal.{StoreRefusal}
@@ -24,7 +24,7 @@ nth_set_other (z ∷ xs) zero (suc j) y n = refl
 nth_set_other (z ∷ xs) (suc i) zero y n = refl
 nth_set_other (z ∷ xs) (suc i) (suc j) y n = nth_set_other xs i j y (omega arith)
 
-sound_nth : (i : ℕ) (ms : BankModel) (m : StoreModel) → slice_get ms i ≡ Some m → All Sound ms → Sound m
+sound_nth : (i : ℕ) (ms : BankModel) (m : StoreModel) → slice_get ms i ≡ Some m → AllByRecursion Sound ms → Sound m
 sound_nth i [] m e a = grind arith
 sound_nth zero (x ∷ ms) m e a = let same : x ≡ m = cc in rw same at a.0
 sound_nth (suc i) (x ∷ ms) m e a = sound_nth i ms m e a.1

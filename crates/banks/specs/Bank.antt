@@ -1,6 +1,6 @@
 -- What a bank means: the list of its stores. Each function of a bank is a function of one store.
 use Rattle.std.specs.Prelude.{ℕ, ◌≤◌, List, ◌++◌, length, take, Some, None, Ok, Err, Result, slice_set}
-use Rattle.std.specs.List.{slice_get, AllByRecursion as All}
+use Rattle.std.specs.List.{slice_get, AllByRecursion}
 use Rattle.stores.specs.declared.types.StoreRefusal.{StoreRefusal}
 use Rattle.stores.specs.Store.{StoreModel, Step, Sound}
 use Rattle.banks.specs.declared.types.BankRefusal.{BankRefusal}
@@ -31,7 +31,7 @@ at_store service function stores =
 pub record SoundBank (stores : BankModel) : Type 0 where
   pub not_empty : 1 ≤ length stores
   pub not_many : length stores ≤ 8
-  pub each : All Sound stores
+  pub each : AllByRecursion Sound stores
 
 -- two banks joined: the left one's stores, then the right one's, and none past the eighth
 abbrev pub joined_stores : BankModel → BankModel → BankModel

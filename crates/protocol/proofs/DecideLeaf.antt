@@ -3,7 +3,7 @@ use Rattle.std.proofs.Common.{◌≡◌, ℕ, ◌+◌, ◌<◌, Bool, true, fals
 use Rattle.std.proofs.ByRecursion.{All-weaker}
 use Rattle.std.proofs.lemmas.Bool.{cases_eq, and_parts}
 use Rattle.std.specs.Option.{option_map}
-use Rattle.std.specs.List.{slice_get, AllByRecursion as All}
+use Rattle.std.specs.List.{slice_get, AllByRecursion}
 use Rattle.stores.specs.Store.{StoreModel, visible}
 use Rattle.banks.specs.Bank.{BankModel}
 use Rattle.banks.proofs.OneStore.{nth_set_same, nth_set_other}
@@ -53,7 +53,7 @@ record AnsweredPart (s : Site) (l : Ledger) (t j : ℕ) (p : Part) : Type 0 wher
 module _ (start : BankModel) (s : Site) (l : Ledger) (N : ℕ → Transaction) (k : Kept s) (I : Inv start s l N) (c : ℕ) (client : Client) (ps : List OpenPart) (there : slice_get s.clients c ≡ Some client) (is_open : client.parts ≡ Some ps) (t : ℕ) (newest : l.newest c ≡ Some t) (entered : t < l.entered) (name : N t ≡ named c client.number) (pending : l.fate t ≡ undecided) (alike : AlikeParts ps (l.parts t)) where
   module _ (commits : Bool) where
     -- the single-file run does not see fates
-    same_line : All (SameEntry l (with_fate t commits l)) l.line
+    same_line : AllByRecursion (SameEntry l (with_fate t commits l)) l.line
     same_line = same_entries l (with_fate t commits l) l.line refl refl
 
     fate_there : (u : ℕ) → u ≢ t → put_at l.fate t (fate_of commits) u ≡ l.fate u
@@ -128,12 +128,12 @@ module _ (start : BankModel) (s : Site) (l : Ledger) (N : ℕ → Transaction) (
             by_map (Decides (entries N (with_fate t commits l))) (λ part. record { client = c; service = part.service; number = client.number; commits = commits }) ps
             (λ _. record { entry = t; entered = entered; name = name; fate = fate_here })
 
-    done_after : All (λ a. (a.entry < l.entered) × (put_at l.fate t (fate_of commits) a.entry ≡ fate_of a.commits)) l.acts
+    done_after : AllByRecursion (λ a. (a.entry < l.entered) × (put_at l.fate t (fate_of commits) a.entry ≡ fate_of a.commits)) l.acts
     done_after =
         All-weaker (λ a. (a.entry < l.entered) × (l.fate a.entry ≡ fate_of a.commits)) (λ a. (a.entry < l.entered) × (put_at l.fate t (fate_of commits) a.entry ≡ fate_of a.commits))
         (λ a h. (h.0, fate_there a.entry (decided_apart a.entry a.commits h.1) ∙ h.1)) l.acts I.done
 
-    in_line_after : All (λ u. (u < l.entered) × (put_at l.fate t (fate_of commits) u ≡ to_commit)) l.line
+    in_line_after : AllByRecursion (λ u. (u < l.entered) × (put_at l.fate t (fate_of commits) u ≡ to_commit)) l.line
     in_line_after =
         All-weaker (λ u. (u < l.entered) × (l.fate u ≡ to_commit)) (λ u. (u < l.entered) × (put_at l.fate t (fate_of commits) u ≡ to_commit))
         (λ u h. (h.0, fate_there u (decided_apart u true h.1) ∙ h.1)) l.line I.in_line
@@ -156,7 +156,7 @@ module _ (start : BankModel) (s : Site) (l : Ledger) (N : ℕ → Transaction) (
 
     -- what the law says of the line, once it is known, makes the invariant
     after_decision : (unrun : (v : ℕ) (operations : List Operation) → commits ≡ true → HasPart (l.parts t) v operations → slice_get s.services v ≡ Some given → ⊥)
-        → All (λ u. (u < l.entered) × (put_at l.fate t (fate_of commits) u ≡ to_commit)) (with_fate t commits l).line
+        → AllByRecursion (λ u. (u < l.entered) × (put_at l.fate t (fate_of commits) u ≡ to_commit)) (with_fate t commits l).line
         → LineRight (with_fate t commits l) start (with_fate t commits l).line
         → ((v : ℕ) → slice_get (single_file (with_fate t commits l) start (with_fate t commits l).line) v ≡ option_map (settled_store (with_fate t commits l) (l.service v)) (slice_get s.stores v))
         → Inv start (decided_site c client ps commits s) (with_fate t commits l) N

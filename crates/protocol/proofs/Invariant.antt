@@ -1,7 +1,7 @@
 -- What holds between a site and the ledger of its calls at every moment of a run, beside the kept facts.
 use Rattle.std.proofs.Common.{◌≡◌, ℕ, ◌<◌, ◌≤◌, Bool, true, false, cond, List, [], ◌∷◌, length, is_some, Some, None, Option, arith}
 use Rattle.std.specs.Option.{option_map}
-use Rattle.std.specs.List.{slice_get, AllByRecursion as All}
+use Rattle.std.specs.List.{slice_get, AllByRecursion}
 use Rattle.stores.specs.Store.{StoreModel}
 use Rattle.banks.specs.Bank.{BankModel}
 use Rattle.scripts.specs.declared.types.Operation.{Operation}
@@ -140,8 +140,8 @@ pub record Inv (start : BankModel) (s : Site) (l : Ledger) (N : ℕ → Transact
   pub says : (j : ℕ) (r : Reply) (looks : List ℕ) → slice_get s.replies j ≡ Some r → r.looks ≡ Some looks → PromisedYes s.services r.service (named r.client r.number) looks
   pub tells : (j : ℕ) (d : Decision) → slice_get s.decisions j ≡ Some d → Decides (entries N l) d
   -- the law so far
-  pub done : All (λ a. (a.entry < l.entered) × (l.fate a.entry ≡ fate_of a.commits)) l.acts
-  pub in_line : All (λ t. (t < l.entered) × (l.fate t ≡ to_commit)) l.line
+  pub done : AllByRecursion (λ a. (a.entry < l.entered) × (l.fate a.entry ≡ fate_of a.commits)) l.acts
+  pub in_line : AllByRecursion (λ t. (t < l.entered) × (l.fate t ≡ to_commit)) l.line
   pub right : LineRight l start l.line
   pub settled : (v : ℕ) → slice_get (single_file l start l.line) v ≡ option_map (settled_store l (l.service v)) (slice_get s.stores v)
 

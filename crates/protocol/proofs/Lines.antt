@@ -1,7 +1,7 @@
 -- The single-file run and what it shows depend on a ledger's line, parts, looks and fates alone.
 use Rattle.std.proofs.Common.{◌≡◌, ℕ, List, [], ◌∷◌, None, Option, refl, ap}
 use Rattle.std.specs.Option.{option_map}
-use Rattle.std.specs.List.{AllByRecursion as All}
+use Rattle.std.specs.List.{AllByRecursion}
 use Rattle.stores.specs.Store.{StoreModel}
 use Rattle.banks.specs.Bank.{BankModel}
 use Rattle.protocol.specs.Law.{LineRight, single_file, settled_by, settled_pairs, commit_parts}
@@ -15,15 +15,15 @@ pub record SameEntry (l m : Ledger) (t : ℕ) : Type 0 where
   pub parts : m.parts t ≡ l.parts t
   pub noted : m.noted t ≡ l.noted t
 
-pub same_entries : (l m : Ledger) (line : List ℕ) → m.parts ≡ l.parts → m.noted ≡ l.noted → All (SameEntry l m) line
+pub same_entries : (l m : Ledger) (line : List ℕ) → m.parts ≡ l.parts → m.noted ≡ l.noted → AllByRecursion (SameEntry l m) line
 same_entries l m line parts noted = all_at (SameEntry l m) line (λ _ t _. record { parts = ap (λ table. table t) parts; noted = ap (λ table. table t) noted })
 
 module _ (l m : Ledger) (start : BankModel) where
-  pub same_file : (line : List ℕ) → All (SameEntry l m) line → single_file m start line ≡ single_file l start line
+  pub same_file : (line : List ℕ) → AllByRecursion (SameEntry l m) line → single_file m start line ≡ single_file l start line
   same_file [] same = refl
   same_file (t ∷ line) same = λ i. commit_parts (same.0.parts i) (same_file line same.1 i)
 
-  pub same_right : (line : List ℕ) → All (SameEntry l m) line → LineRight l start line → LineRight m start line
+  pub same_right : (line : List ℕ) → AllByRecursion (SameEntry l m) line → LineRight l start line → LineRight m start line
   same_right [] same r = tt
   same_right (t ∷ line) same r = (rw (same.0.noted, same.0.parts, same_file line same.1) r.0, same_right line same.1 r.1)
 

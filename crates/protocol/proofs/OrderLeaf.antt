@@ -2,7 +2,7 @@
 use Rattle.std.proofs.Common.{◌≡◌, ℕ, suc, ◌<◌, true, false, eqb, ◌⊎◌, List, [], ◌∷◌, map, length, is_some, Some, None, Ok, sym, refl, ap, ◌∙◌, subst, inl, inr, arith}
 use Rattle.std.proofs.ByRecursion.{All-weaker}
 use Rattle.std.proofs.lemmas.Bool.{cases_eq}
-use Rattle.std.specs.List.{slice_get, AllByRecursion as All}
+use Rattle.std.specs.List.{slice_get, AllByRecursion}
 use Rattle.banks.specs.Bank.{BankModel}
 use Rattle.banks.proofs.OneStore.{nth_set_same}
 use Rattle.scripts.specs.Reading.{Part, read_script}
@@ -148,7 +148,7 @@ module _ (start : BankModel) (s : Site) (l : Ledger) (N : ℕ → Transaction) (
         subst (λ x. AlikeParts x (new_ledger.parts l.entered)) same (subst (AlikeParts (map unsent parts)) (sym (put_here l.parts l.entered parts)) (alike_unsent parts));
   }
 
-  same_line : All (SameEntry l new_ledger) l.line
+  same_line : AllByRecursion (SameEntry l new_ledger) l.line
   same_line =
       All-weaker (λ t. (t < l.entered) × (l.fate t ≡ to_commit)) (SameEntry l new_ledger) (λ t h. record { parts = later.parts t h.0; noted = refl }) l.line I.in_line
 

@@ -3,7 +3,7 @@ use Rattle.std.proofs.Common.{◌≡◌, ℕ, ◌<◌, true, ◌≢◌, ◌⊎�
 use Rattle.std.proofs.lemmas.Bool.{cases_eq}
 use Rattle.std.proofs.lemmas.Bool.Decides.{nat_tests}
 use Rattle.std.specs.Option.{option_map}
-use Rattle.std.specs.List.{slice_get, AllByRecursion as All}
+use Rattle.std.specs.List.{slice_get, AllByRecursion}
 use Rattle.stores.specs.Store.{StoreModel}
 use Rattle.banks.specs.Bank.{BankModel}
 use Rattle.protocol.specs.Calls.{client_waits}
@@ -48,7 +48,7 @@ pub record Harmless (s : Site) (l : Ledger) (N : ℕ → Transaction) (v : ℕ) 
   pub settles : settled_store l (engagements v) now ≡ settled_store l (l.service v) was
   pub asked : (j : ℕ) (r : Request) → slice_get requests j ≡ Some r → Asks (entries N l) (engagements r.service) r
   pub told : (j : ℕ) (d : Decision) → slice_get decisions j ≡ Some d → Decides (entries N l) d
-  pub done : All (λ a. (a.entry < l.entered) × (l.fate a.entry ≡ fate_of a.commits)) acts
+  pub done : AllByRecursion (λ a. (a.entry < l.entered) × (l.fate a.entry ≡ fate_of a.commits)) acts
 
 pub moved : (start : BankModel) (s : Site) (l : Ledger) (N : ℕ → Transaction) (v : ℕ) (new : Service) (requests : List Request) (decisions : List Decision) (stores : BankModel) (engagements : ℕ → Engagement) (acts : List Act) → Kept s → Inv start s l N → Harmless s l N v new requests decisions stores engagements acts → Inv start (moved_site s v new requests decisions stores) (moved_ledger l engagements acts) N
 moved start s l N v new requests decisions stores engagements acts k I h = record {
@@ -72,7 +72,7 @@ moved start s l N v new requests decisions stores engagements acts k I h = recor
   settled = λ u. ap (λ stores. slice_get stores u) (same_file l (moved_ledger l engagements acts) start l.line same_line) ∙ I.settled u ∙ settled u (cases_eq u v);
 }
   where
-    same_line : All (SameEntry l (moved_ledger l engagements acts)) l.line
+    same_line : AllByRecursion (SameEntry l (moved_ledger l engagements acts)) l.line
     same_line = same_entries l (moved_ledger l engagements acts) l.line refl refl
 
     -- another service's promise stands, and this one's is none that is awaited

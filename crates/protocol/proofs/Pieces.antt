@@ -1,6 +1,6 @@
 -- Small changes of a site that keep the invariant: a message more or less, a part in another state. And a promise that stands.
 use Rattle.std.proofs.Common.{◌≡◌, ℕ, ◌<◌, true, ◌≢◌, List, set, is_some, Some, Option, sym, refl, ap, ◌∙◌, subst}
-use Rattle.std.specs.List.{slice_get, AllByRecursion as All}
+use Rattle.std.specs.List.{slice_get, AllByRecursion}
 use Rattle.std.proofs.ByRecursion.{All-weaker}
 use Rattle.banks.specs.Bank.{BankModel}
 use Rattle.banks.proofs.OneStore.{nth_set_other}
@@ -128,7 +128,7 @@ module _ (start : BankModel) (s : Site) (l : Ledger) (N : ℕ → Transaction) (
         (looks, ap (λ table. table q) (elsewhere u (other_entry d u k ps apart e f newest)) ∙ was, promise))
 
     -- an entry in the line is decided, so nothing new is noted of it
-    same_line : All (SameEntry l (noting noted l)) l.line
+    same_line : AllByRecursion (SameEntry l (noting noted l)) l.line
     same_line = All-weaker (λ u. (u < l.entered) × (l.fate u ≡ to_commit)) (SameEntry l (noting noted l)) same l.line I.in_line
       where
         same : (u : ℕ) → (u < l.entered) × (l.fate u ≡ to_commit) → SameEntry l (noting noted l) u

@@ -1,6 +1,6 @@
 -- The single-file run, part by part: a part concerns the store of its service alone.
 use Rattle.std.proofs.Common.{◌≡◌, ℕ, zero, suc, ◌≢◌, List, [], ◌∷◌, set, Some, None, Ok, Err, Option, sym, refl, ap, ◌∙◌, arith, set-set}
-use Rattle.std.specs.List.{slice_get, AllByRecursion as All}
+use Rattle.std.specs.List.{slice_get, AllByRecursion}
 use Rattle.std.proofs.ByRecursion.{All-weaker}
 use Rattle.stores.specs.Pairs.{Pairs}
 use Rattle.stores.specs.Store.{StoreModel, Trial, begin_step, commit_step}
@@ -56,7 +56,7 @@ module _ (v : ℕ) (operations : List Operation) (stores : BankModel) (m : Store
 
 -- the services of parts are pairwise distinct
 abbrev pub Elsewhere : ℕ → List Part → Type 0
-Elsewhere v ps = All (λ p. p.service ≢ v) ps
+Elsewhere v ps = AllByRecursion (λ p. p.service ≢ v) ps
 
 abbrev pub Apart : List Part → Type 0
 Apart [] = Unit {0}
@@ -91,14 +91,14 @@ EachRight noted i (p ∷ ps) stores =
     × EachRight noted (suc i) ps stores
 
 abbrev pub AllClosed : List Part → BankModel → Type 0
-AllClosed ps stores = All (λ p. Closed p.service stores) ps
+AllClosed ps stores = AllByRecursion (λ p. Closed p.service stores) ps
 
 closed_along : (v : ℕ) (stores others : BankModel) → Closed v stores → slice_get others v ≡ slice_get stores v → Closed v others
 closed_along v stores others c e = record { store = c.store; there = e ∙ c.there; closed = c.closed }
 
 -- stores that agree on the services of the parts
 abbrev Alike : List Part → BankModel → BankModel → Type 0
-Alike ps stores others = All (λ p. slice_get others p.service ≡ slice_get stores p.service) ps
+Alike ps stores others = AllByRecursion (λ p. slice_get others p.service ≡ slice_get stores p.service) ps
 
 each_along : (noted : ℕ → Option (List ℕ)) (i : ℕ) (ps : List Part) (stores others : BankModel) → AllClosed ps stores → Alike ps stores others → EachRight noted i ps stores → EachRight noted i ps others
 each_along noted i [] stores others c a r = tt

@@ -2,7 +2,7 @@
 use Rattle.std.proofs.Common.{◌≡◌, ℕ, zero, suc, ◌<◌, ◌≢◌, List, [], ◌∷◌, ◌++◌, map, length, set, Some, None, Option, sym, refl, ap, ◌∙◌, subst, ⊎_elim, arith}
 use Rattle.std.proofs.lemmas.Bool.{cases_eq}
 use Rattle.std.proofs.lemmas.Bool.Decides.{nat_tests}
-use Rattle.std.specs.List.{slice_get, AllByRecursion as All}
+use Rattle.std.specs.List.{slice_get, AllByRecursion}
 use Rattle.banks.proofs.OneStore.{nth_set_same, nth_set_other}
 use Rattle.protocol.specs.Ledger.{put_at}
 
@@ -23,11 +23,11 @@ beside (z ∷ xs) (y ∷ ys) zero x same e = (y, refl)
 beside (z ∷ xs) (y ∷ ys) (suc i) x same e = beside xs ys i x (omega arith) e
 
 -- what holds at each place holds of all, and back
-pub all_at : {X : Type 0} (P : X → Type 0) (xs : List X) → ((j : ℕ) (x : X) → slice_get xs j ≡ Some x → P x) → All P xs
+pub all_at : {X : Type 0} (P : X → Type 0) (xs : List X) → ((j : ℕ) (x : X) → slice_get xs j ≡ Some x → P x) → AllByRecursion P xs
 all_at P [] each = tt
 all_at P (x ∷ xs) each = (each 0 x refl, all_at P xs (λ j. each (suc j)))
 
-pub at_place : {X : Type 0} (P : X → Type 0) (xs : List X) (j : ℕ) (x : X) → All P xs → slice_get xs j ≡ Some x → P x
+pub at_place : {X : Type 0} (P : X → Type 0) (xs : List X) (j : ℕ) (x : X) → AllByRecursion P xs → slice_get xs j ≡ Some x → P x
 at_place P [] j x all e = none_is_some x e
 at_place P (y ∷ xs) zero x all e = let same : y ≡ x = cc in subst P same all.0
 at_place P (y ∷ xs) (suc j) x all e = at_place P xs j x all.1 e

@@ -1,7 +1,7 @@
 -- The law of every run: what the ledger of its calls and answers has to do with the stores.
 use Rattle.std.specs.Prelude.{◌≡◌, ℕ, suc, true, false, List, [], ◌∷◌, length, Some, Option, ◌≢◌}
 use Rattle.std.specs.Option.{option_map}
-use Rattle.std.specs.List.{slice_get, AllByRecursion as All}
+use Rattle.std.specs.List.{slice_get, AllByRecursion}
 use Rattle.stores.specs.Pairs.{Pairs}
 use Rattle.stores.specs.Store.{StoreModel, visible, commit_step, roll_back_step}
 use Rattle.banks.specs.Bank.{BankModel, SoundBank, at_store}
@@ -57,7 +57,7 @@ Obeyed l act = elim act.commits [ true ↦ l.fate act.entry ≡ to_commit | fals
 
 pub record Law (start : BankModel) (l : Ledger) (stores : BankModel) : Type 0 where
   -- no service committed what its client aborted or has yet to decide, and none rolled back what its client committed
-  pub obeyed : All (Obeyed l) l.acts
+  pub obeyed : AllByRecursion (Obeyed l) l.acts
   -- every vote of the single-file run is yes, and GET gave just its look numbers
   pub right : LineRight l start l.line
   -- and it leaves each service its settled pairs
