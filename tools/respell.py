@@ -7,8 +7,9 @@ usage: python3 tools/respell.py [ROOT]     (ROOT: the repository's top, by defau
 Run once, right after the toolchain's own script has turned the older spelling. It renames what
 specs/ and proofs/ of the crates define: definitions, lemmas, records' fields, constructors, and the
 names bound in them. It leaves the names of functions, types and fields of src/, the names that the
-checker gives to goals and steps of a proof, and the library's names. It stops where two names would
-fall together.
+checker gives to goals and steps of a proof, and the library's names. In src/ it turns the lines that
+begin a ghost import, a clause or a ghost item, and not those that go on below them. It names, and
+turns all the same, what shares a file with the name that it would get: look there.
 """
 
 import collections
@@ -33,10 +34,6 @@ def texts(root):
         for f in sorted(files):
             if f.endswith((".antt", ".rt")):
                 yield os.path.join(folder, f)
-
-
-def is_answer(path):
-    return path.endswith(("/Answers.antt", "/Invariants.antt", "/Choices.antt", "/Proof.antt"))
 
 
 def code(line, path):

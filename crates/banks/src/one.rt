@@ -1,7 +1,7 @@
 // One store is a bank.
 ghost use Rattle.std.specs.Prelude.{◌≡◌, [], ◌∷◌};
 ghost use Rattle.banks.specs.Bank.{from_store};
-ghost use Rattle.std.proofs.Common.{rules};
+ghost use Rattle.banks.specs.Single.{single_sound};
 
 use crate::interface::Bank;
 use crate::types::BankRefusal;
@@ -26,7 +26,7 @@ fn from_store<T>(r: Result<T, StoreRefusal>) -> Result<T, BankRefusal>
 impl<S: Store> Bank for One<S> {
     ghost stores = { λ b. S.Store.model b.store ∷ [] };
 
-    ghost sound = { Prim.search rules };
+    ghost sound = { λ b. single_sound (S.Store.model b.store) (S.Store.sound b.store) };
 
     fn count(&self) -> u8 {
         1
