@@ -1,5 +1,5 @@
 // Worked examples of banks.
-use banks::{Bank, BankRefusal, Both, One, begin_all, roll_back_all};
+use banks::{Bank, BankRefusal, Both, One, OpenTrial, begin_all, roll_back_all};
 use std::test::Fail;
 use stores::{ShadowStore, Store, StoreRefusal, UndoStore};
 
@@ -7,33 +7,15 @@ type Two = Both<One<ShadowStore>, One<UndoStore>>;
 
 type Four = Both<Two, Two>;
 
-fn two() -> Two {
-    Both {
-        left: One {
-            store: ShadowStore::new(),
-        },
-        right: One {
-            store: UndoStore::new(),
-        },
-    }
-}
-
-fn four() -> Four {
-    Both {
-        left: two(),
-        right: two(),
-    }
-}
-
 // Ten stores joined: the last two are not in the bank.
 #[test]
 fn more_than_eight(rt: HostRuntime) -> Result<(), Fail> {
     let mut bank = Both {
         left: Both {
-            left: four(),
-            right: two(),
+            left: Four::default(),
+            right: Two::default(),
         },
-        right: four(),
+        right: Four::default(),
     };
     assert_eq!(rt; bank.count(), 8);
     for service in 0..8u8 {
@@ -47,15 +29,13 @@ fn more_than_eight(rt: HostRuntime) -> Result<(), Fail> {
         bank.commit(service)?;
         assert_eq!(rt; bank.look(service, 1), Ok(Some(u32::from(service))));
     }
-    assert_eq!(rt; BankRefusal::NoSuchStore.number(), 2);
+    assert_eq!(rt; u8::from(BankRefusal::NoSuchStore), 2);
     Ok(())
 }
 
 #[test]
 fn one_store(rt: HostRuntime) {
-    let mut bank = One {
-        store: ShadowStore::new(),
-    };
+    let mut bank = One::<ShadowStore>::default();
     assert_eq!(rt; bank.count(), 1);
     assert_eq!(rt; bank.begin(1), Err(BankRefusal::NoSuchStore));
     assert_eq!(rt; bank.drop(255, 1), Err(BankRefusal::NoSuchStore));
@@ -69,9 +49,9 @@ fn one_store(rt: HostRuntime) {
 // Trials are begun in all stores or in none.
 #[test]
 fn begin_all_or_none(rt: HostRuntime) -> Result<(), Fail> {
-    let mut bank = four();
+    let mut bank = Four::default();
     bank.begin(2)?;
-    assert!(rt; begin_all(&mut bank) == Err(2));
+    assert_eq!(rt; begin_all(&mut bank), Err(OpenTrial { service: 2 }));
     assert_eq!(rt;
         bank.put(0, 1, 1),
         Err(BankRefusal::ByStore(StoreRefusal::TrialClosed))

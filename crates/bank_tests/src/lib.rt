@@ -1,4 +1,4 @@
-// Worked examples of stores and banks, run on both makes of store.
+//! Worked examples of stores and banks, run on both makes of store.
 #![tactic(auto)]
 
 #[cfg(test)]

@@ -5,13 +5,14 @@ ghost use Rattle.banks.specs.Bank.{BankModel, SoundBank, at_store};
 
 use crate::types::BankRefusal;
 
-// A bank of 1 to 8 stores, numbered from 0. Each function is the store's, done to the store of the
-// service number; the other stores stay as they were.
+/// A bank of 1 to 8 stores, numbered from 0. Each function is the store's, done to the store of the
+/// service number; the other stores stay as they were. The clauses are written out, so that a function's
+/// contract stands at its name.
 pub trait Bank {
     // What the bank means: its stores in order.
     ghost stores: { Self → BankModel };
 
-    // How many stores there are; no function alters it.
+    /// How many stores there are; no function alters it.
     fn count(&self) -> u8
         ensures { result ≡ length (stores self.now) };
 

@@ -1,4 +1,4 @@
-// Issuing: the parts of a script run on any bank, and stand in all of its stores or in none.
+//! Issuing: the parts of a script run on any bank, and stand in all of its stores or in none.
 #![tactic(auto)]
 
 mod outcome;

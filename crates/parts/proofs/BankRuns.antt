@@ -1,58 +1,28 @@
 -- A part run operation by operation through a bank is the part run on the store's meaning.
-use Rattle.std.proofs.Common.{◌≡◌, ℕ, zero, suc, ◌+◌, ◌^◌, ◌<◌, ◌≤◌, Bool, true, false, ltb, List, [], ◌∷◌, ◌++◌, length, get_or, take, drop, set, Some, None, Ok, Err, Option, Result, sym, refl, ap, ◌∙◌, add-one, arith, set-set}
-use Rattle.std.proofs.lemmas.List.{drop_more, drop_all, append-nil, append_assoc, take_all}
+use Rattle.std.proofs.Common.{◌≡◌, ℕ, suc, ◌+◌, ◌<◌, ◌≤◌, List, [], ◌∷◌, ◌++◌, length, get_or, take, drop, set, Some, None, Ok, Err, Option, refl, add-one, arith, set-set}
+use Rattle.std.proofs.lemmas.List.{drop_all, append-nil, append_assoc, take_all}
 use Rattle.std.proofs.lemmas.Option.{slice_get_past}
+use Rattle.std.proofs.Math.Seq.{drop-cons}
 use Rattle.std.specs.List.{slice_get}
-use Rattle.stores.specs.declared.types.StoreRefusal.{StoreRefusal}
-use Rattle.stores.specs.Store.{StoreModel, Step, look, look_step, put_step, drop_step}
+use Rattle.stores.specs.Store.{StoreModel, look}
 use Rattle.banks.specs.declared.types.BankRefusal.TheVariants.{NoSuchStore}
-use Rattle.banks.specs.Bank.{BankModel, at_store, from_store}
-use Rattle.banks.specs.Joined.{at_some}
+use Rattle.banks.specs.Bank.{BankModel}
 use Rattle.banks.proofs.OneStore.{nth_set_same}
 use Rattle.banks.proofs.Turns.{set_nth, within_none}
 use Rattle.scripts.specs.declared.types.Operation.{Operation}
-use Rattle.scripts.specs.declared.types.Operation.TheVariants.{Look, Put, Need, Add, Drop}
 use Rattle.parts.specs.declared.votes.Cause.{Cause}
 use Rattle.parts.specs.declared.votes.Cause.TheVariants.{ByBank}
+use Rattle.parts.specs.declared.looks.Looks.{Looks}
 use Rattle.parts.specs.declared.votes.Vote.TheVariants.{Yes, No}
-use Rattle.parts.specs.OnBank.{Operated, operated, by_bank_step, change_given, look_given, need_given, sum_given}
-use Rattle.parts.specs.Runs.{Done, PartRun, BankRun, run_operation, run_from, run_part, run_part_at, by_step, answered, sum_put, then_run}
+use Rattle.parts.specs.Looks.{looks_of}
+use Rattle.parts.specs.OnBank.{Operated, operated}
+use Rattle.parts.specs.Runs.{PartRun, BankRun, run_operation, run_from, run_part_at}
 use Rattle.parts.specs.Votes.{with_look}
+use Rattle.short_lists.specs.Lengths.{listed_whole}
+use Rattle.parts.proofs.Kept.{take_capped}
 
--- what an operation on a store comes to, seen from the bank
-abbrev seen : ℕ → BankModel → Done → Operated
-seen service stores d = record { answer = d.answer; next = set stores service d.next }
-
-answered_alike : (r : Result (Unit {0}) StoreRefusal) → change_given (from_store r) ≡ answered r
-answered_alike (Ok u) = refl
-answered_alike (Err why) = refl
-
-module _ (service : ℕ) (stores : BankModel) (m : StoreModel) (there : slice_get stores service ≡ Some m) where
-  step_alike : (step : StoreModel → Step (Unit {0})) → by_bank_step (at_store service step stores) ≡ seen service stores (by_step (step m))
-  step_alike step =
-      ap by_bank_step (at_some service step stores m there)
-      ∙ ap (λ a. record { answer = a; next = set stores service (step m).next }) (answered_alike (step m).answer)
-
-  looked : (key : ℕ) → (at_store service (look_step key) stores).answer ≡ Ok (look key m)
-  looked key = ap (λ r. r.answer) (at_some service (look_step key) stores m there)
-
-  unaltered : (answer : Result (Option ℕ) Cause) → ◌≡◌ {A = Operated} (record { answer = answer; next = stores }) (record { answer = answer; next = set stores service m })
-  unaltered answer = ap (λ ms. record { answer = answer; next = ms }) (sym (set_nth service stores m there))
-
-  summed_alike : (key value : ℕ) (o : Option ℕ) → sum_given service key value (Ok o) stores ≡ seen service stores (sum_put key value o m)
-  summed_alike key value None = unaltered _
-  summed_alike key value (Some found) = go (ltb (found + value) (2 ^ 32)) refl
-    where
-      go : (b : Bool) → ltb (found + value) (2 ^ 32) ≡ b → sum_given service key value (Ok (Some found)) stores ≡ seen service stores (sum_put key value (Some found) m)
-      go true e = rw e (step_alike (put_step key (found + value)))
-      go false e = rw e (unaltered _)
-
-  operated_alike : (o : Operation) → operated service o stores ≡ seen service stores (run_operation o m)
-  operated_alike (Look key) = ap (λ r. record { answer = look_given r; next = stores }) (looked key) ∙ unaltered _
-  operated_alike (Put key value) = step_alike (put_step key value)
-  operated_alike (Need key value) = ap (λ r. record { answer = need_given value r; next = stores }) (looked key) ∙ unaltered _
-  operated_alike (Add key value) = ap (λ r. sum_given service key value r stores) (looked key) ∙ summed_alike key value (look key m)
-  operated_alike (Drop key) = step_alike (drop_step key)
+-- a store that an operation only reads is written back as it was
+pub ruleset read_only = (set_nth)
 
 -- the operations in turn, through the bank
 abbrev pub then_turns : ℕ → Operated → BankRun → BankRun
@@ -69,98 +39,57 @@ turns service i (o ∷ os) stores = then_turns i (operated service o stores) (tu
 abbrev seen_part : ℕ → BankModel → PartRun → BankRun
 seen_part service stores r = record { vote = r.vote; looks = r.looks; next = set stores service r.next }
 
-then_alike : (service i : ℕ) (stores : BankModel) (answer : Result (Option ℕ) Cause) (next : StoreModel) (others : PartRun) → then_turns i (seen service stores (record { answer = answer; next = next })) (seen_part service stores others) ≡ seen_part service stores (then_run i (record { answer = answer; next = next }) others)
-then_alike service i stores (Ok look) next others = refl
-then_alike service i stores (Err cause) next others = refl
-
 turns_alike : (service i : ℕ) (os : List Operation) (stores : BankModel) (m : StoreModel) → slice_get stores service ≡ Some m → turns service i os stores ≡ seen_part service stores (run_from i os m)
-turns_alike service i [] stores m there = ap (λ ms. record { vote = Yes; looks = []; next = ms }) (sym (set_nth service stores m there))
+turns_alike service i [] stores m there = grind (arith, set_nth)
 turns_alike service i (o ∷ os) stores m there =
     let done = run_operation o m in
-    let others = run_from (suc i) os done.next in
     let rest = turns_alike service (suc i) os (set stores service done.next) done.next (nth_set_same stores service m done.next there) in
-    let once : seen_part service (set stores service done.next) others ≡ seen_part service stores others =
-    ap (λ ms. record { vote = others.vote; looks = others.looks; next = ms }) (set-set stores service done.next others.next) in
-    ap (λ d. then_turns i d (turns service (suc i) os d.next)) (operated_alike service stores m there o)
-    ∙ ap (then_turns i (seen service stores done)) (rest ∙ once)
-    ∙ then_alike service i stores done.answer done.next others
+    let once = set-set stores service done.next (run_from (suc i) os done.next).next in
+    grind arith
 
 pub part_alike : (service : ℕ) (os : List Operation) (stores : BankModel) → service < length stores → turns service 0 os stores ≡ run_part_at service os stores
-part_alike service os stores within = go (slice_get stores service) refl
-  where
-    go : (o : Option StoreModel) → slice_get stores service ≡ o → turns service 0 os stores ≡ run_part_at service os stores
-    go None e = absurd (within_none service stores within e)
-    go (Some m) e = turns_alike service 0 os stores m e ∙ rw (e, run_part_at) refl
+part_alike service os stores within = grind (arith, within_none, turns_alike)
 
 pub part_nowhere : (service : ℕ) (os : List Operation) (stores : BankModel) → length stores ≤ service → run_part_at service os stores ≡ record { vote = No 0 (ByBank NoSuchStore); looks = []; next = stores }
-part_nowhere service os stores past = rw (slice_get_past stores service past, run_part_at) refl
-
-with_look_length : (look : Option ℕ) (xs : List ℕ) (n : ℕ) → length xs ≤ n → length (with_look look xs) ≤ suc n
-with_look_length None xs n h = omega arith
-with_look_length (Some x) xs n h = omega arith
-
-then_few : (i : ℕ) (answer : Result (Option ℕ) Cause) (next : StoreModel) (others : PartRun) (n : ℕ) → length others.looks ≤ n → length (then_run i (record { answer = answer; next = next }) others).looks ≤ suc n
-then_few i (Ok look) next others n h = with_look_length look others.looks n h
-then_few i (Err cause) next others n h = omega arith
+part_nowhere service os stores past = grind (arith, slice_get_past)
 
 -- an operation gives at most one look number
-pub looks_few : (i : ℕ) (os : List Operation) (m : StoreModel) → length (run_from i os m).looks ≤ length os
+looks_few : (i : ℕ) (os : List Operation) (m : StoreModel) → length (run_from i os m).looks ≤ length os
 looks_few i [] m = omega arith
-looks_few i (o ∷ os) m = then_few i (run_operation o m).answer (run_operation o m).next (run_from (suc i) os (run_operation o m).next) (length os) (looks_few (suc i) os (run_operation o m).next)
+looks_few i (o ∷ os) m = let rest = looks_few (suc i) os (run_operation o m).next in grind arith
 
 pub looks_capped : (service : ℕ) (os : List Operation) (stores : BankModel) → length os ≤ 8 → take 8 (run_part_at service os stores).looks ≡ (run_part_at service os stores).looks
-looks_capped service os stores short = go (slice_get stores service) refl
-  where
-    go : (o : Option StoreModel) → slice_get stores service ≡ o → take 8 (run_part_at service os stores).looks ≡ (run_part_at service os stores).looks
-    go None e = rw (e, run_part_at) refl
-    go (Some m) e = rw (e, run_part_at) (take_all 8 (run_part os m).looks (let few = looks_few 0 os m in omega arith))
+looks_capped service os stores short = take_all 8 _ (let few : length (run_part_at service os stores).looks ≤ length os = grind (arith, looks_few) in omega arith)
 
--- look numbers past the eighth make no difference
-pub take_capped : {X : Type 0} (n : ℕ) (xs ys : List X) → take n (take n xs ++ ys) ≡ take n (xs ++ ys)
-take_capped zero xs ys = refl
-take_capped (suc n) [] ys = refl
-take_capped (suc n) (x ∷ xs) ys = ap (λ zs. x ∷ zs) (take_capped n xs ys)
+-- a run, behind the look numbers that were noted before it
+abbrev pub behind : List ℕ → BankRun → BankRun
+behind looks r = record { vote = r.vote; looks = take 8 (looks ++ r.looks); next = r.next }
 
--- the whole run is the looks so far and what the operations from the i-th on come to
-pub record Going (service : ℕ) (os : List Operation) (start : BankModel) (i : ℕ) (stores : BankModel) (looks : List ℕ) : Type 0 where
-  pub vote : (turns service 0 os start).vote ≡ (turns service i (drop i os) stores).vote
-  pub given : take 8 (turns service 0 os start).looks ≡ take 8 (looks ++ (turns service i (drop i os) stores).looks)
-  pub next : (turns service 0 os start).next ≡ (turns service i (drop i os) stores).next
+noted : (looks rest : List ℕ) (look : Option ℕ) → take 8 (take 8 (looks ++ with_look look []) ++ rest) ≡ take 8 (looks ++ with_look look rest)
+noted looks rest None = rw append-nil (take_capped 8 looks rest)
+noted looks rest (Some number) = rw (take_capped, append_assoc) refl
 
-with_look_append : (look : Option ℕ) (xs : List ℕ) → with_look look xs ≡ with_look look [] ++ xs
-with_look_append None xs = refl
-with_look_append (Some n) xs = refl
+pub looks_whole : (l : Looks) → take 8 (looks_of l ++ []) ≡ looks_of l
+looks_whole l = rw append-nil (listed_whole l.numbers)
 
-module _ (service : ℕ) (os : List Operation) (start : BankModel) (i : ℕ) (stores : BankModel) (looks : List ℕ) (going : Going service os start i stores looks) where
-  capped : length looks ≤ 8 → take 8 (looks ++ []) ≡ looks
-  capped few = ap (take 8) (append-nil looks) ∙ take_all 8 looks few
-
+module _ (service : ℕ) (os : List Operation) (i : ℕ) (stores : BankModel) (l : Looks) where
   module _ (d : Operation) (within : i < length os) where
-    here : turns service i (drop i os) stores ≡ then_turns i (operated service (get_or os i d) stores) (turns service (i + 1) (drop (i + 1) os) (operated service (get_or os i d) stores).next)
-    here = ap (λ xs. turns service i xs stores) (drop_more os i d within) ∙ ap (λ k. then_turns i (operated service (get_or os i d) stores) (turns service k (drop (i + 1) os) (operated service (get_or os i d) stores).next)) (sym (add-one i))
+    abbrev done : Operated
+    done = operated service (get_or os i d) stores
 
-    pub going_on : (look : Option ℕ) (now : BankModel) (noted : List ℕ) → Ok look ≡ (operated service (get_or os i d) stores).answer → now ≡ (operated service (get_or os i d) stores).next → noted ≡ take 8 (looks ++ with_look look []) → Going service os start (i + 1) now noted
-    going_on look now noted answer after note = record { vote = going.vote ∙ ap (λ r. r.vote) went; given = given; next = going.next ∙ ap (λ r. r.next) went }
-      where
-        went : turns service i (drop i os) stores ≡ record { vote = (turns service (i + 1) (drop (i + 1) os) now).vote; looks = with_look look (turns service (i + 1) (drop (i + 1) os) now).looks; next = (turns service (i + 1) (drop (i + 1) os) now).next }
-        went = here ∙ rw (← after) (rw (← answer, then_turns) refl)
+    here : turns service i (drop i os) stores ≡ then_turns i done (turns service (i + 1) (drop (i + 1) os) done.next)
+    here = rw (add-one, drop-cons os i d within) refl
 
-        given : take 8 (turns service 0 os start).looks ≡ take 8 (noted ++ (turns service (i + 1) (drop (i + 1) os) now).looks)
-        given =
-            let rest = (turns service (i + 1) (drop (i + 1) os) now).looks in
-            going.given
-            ∙ ap (λ r. take 8 (looks ++ r.looks)) went
-            ∙ ap (λ xs. take 8 (looks ++ xs)) (with_look_append look rest)
-            ∙ ap (take 8) (sym (append_assoc looks (with_look look []) rest))
-            ∙ sym (take_capped 8 (looks ++ with_look look []) rest)
-            ∙ ap (λ xs. take 8 (xs ++ rest)) (sym note)
+    pub turn_on : (look : Option ℕ) (now : BankModel) (after : List ℕ) → Ok look ≡ done.answer → now ≡ done.next → after ≡ take 8 (looks_of l ++ with_look look []) → behind (looks_of l) (turns service i (drop i os) stores) ≡ behind after (turns service (i + 1) (drop (i + 1) os) now)
+    turn_on look now after answer next note =
+        let turned = here in
+        let kept = noted (looks_of l) (turns service (i + 1) (drop (i + 1) os) now).looks look in
+        grind arith
 
-    pub going_failed : (cause : Cause) → Err cause ≡ (operated service (get_or os i d) stores).answer → length looks ≤ 8 → ((turns service 0 os start).vote ≡ No i cause) × (take 8 (turns service 0 os start).looks ≡ looks) × ((turns service 0 os start).next ≡ (operated service (get_or os i d) stores).next)
-    going_failed cause answer few =
-        let failed : turns service i (drop i os) stores ≡ record { vote = No i cause; looks = []; next = (operated service (get_or os i d) stores).next } = here ∙ rw (← answer, then_turns) refl in
-        (going.vote ∙ ap (λ r. r.vote) failed, going.given ∙ ap (λ r. take 8 (looks ++ r.looks)) failed ∙ capped few, going.next ∙ ap (λ r. r.next) failed)
+    pub turn_failed : (cause : Cause) → Err cause ≡ done.answer → behind (looks_of l) (turns service i (drop i os) stores) ≡ record { vote = No i cause; looks = looks_of l; next = done.next }
+    turn_failed cause answer = let whole = looks_whole l in let turned = here in grind arith
 
-  pub going_ended : length os ≤ i → length looks ≤ 8 → ((turns service 0 os start).vote ≡ Yes) × (take 8 (turns service 0 os start).looks ≡ looks) × ((turns service 0 os start).next ≡ stores)
-  going_ended past few =
-      let ended : turns service i (drop i os) stores ≡ record { vote = Yes; looks = []; next = stores } = ap (λ xs. turns service i xs stores) (drop_all i os past) in
-      (going.vote ∙ ap (λ r. r.vote) ended, going.given ∙ ap (λ r. take 8 (looks ++ r.looks)) ended ∙ capped few, going.next ∙ ap (λ r. r.next) ended)
+  pub turn_ended : length os ≤ i → behind (looks_of l) (turns service i (drop i os) stores) ≡ record { vote = Yes; looks = looks_of l; next = stores }
+  turn_ended past = rw (drop_all i os past, looks_whole l) refl
+
+pub ruleset part_turns = (part_alike, part_nowhere, looks_whole, turn_on, turn_failed, turn_ended)

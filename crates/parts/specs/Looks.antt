@@ -1,6 +1,7 @@
 -- What a list of look numbers means: the numbers in use.
-use Rattle.std.specs.Prelude.{ℕ, List, take}
-use Rattle.parts.specs.declared.looked.Looks.{Looks}
+use Rattle.std.specs.Prelude.{ℕ, List}
+use Rattle.short_lists.specs.ShortList.{listed}
+use Rattle.parts.specs.declared.looks.Looks.{Looks}
 
 abbrev pub looks_of : Looks → List ℕ
-looks_of l = take l.used l.items
+looks_of l = listed l.numbers

@@ -1,11 +1,10 @@
-// Parts: a part of a transaction run on the store of its service.
+//! Parts: a part of a transaction run on the store of its service.
 #![tactic(auto)]
 
-mod looked;
 mod looks;
 mod runs;
 mod votes;
 
-pub use looked::{LOOK_LIMIT, Looks};
+pub use looks::{LOOK_LIMIT, Looks};
 pub use runs::{Ran, run_part};
 pub use votes::{ABSENT, Cause, Vote};

@@ -1,4 +1,4 @@
-// Two kinds of message, at 8 and at 64 places, in pools of one text.
+//! Two kinds of message, at 8 and at 64 places, in pools of one text.
 #![tactic(auto)]
 
 ghost use Rattle.std.specs.Prelude.{◌≡◌, ◌+◌, length};
@@ -10,7 +10,7 @@ use pools::{Message, Refusal};
 #[cfg(test)]
 mod tests;
 
-// A note is for one reader.
+/// A note is for one reader.
 #[derive(Clone, Copy, PartialEq, Eq, Debug)]
 pub struct Note {
     pub reader: u8,
@@ -33,7 +33,7 @@ pub struct Desk {
     pub room: u8,
 }
 
-// A letter is for a desk: a party of two numbers.
+/// A letter is for a desk: a party of two numbers.
 #[derive(Clone, Copy, PartialEq, Eq, Debug)]
 pub struct Letter {
     pub number: u32,
@@ -47,65 +47,74 @@ impl Message for Letter {
     ghost meets = { for_desk };
 
     fn fits(&self, party: &Desk) -> bool {
-        self.desk.floor == party.floor && self.desk.room == party.room
+        self.desk == *party
     }
 }
 
-// A board has room for 8 notes.
+/// A row has room for `N` messages. Its clauses speak of its places, as those of the pools do.
 #[derive(Drop)]
-pub struct Board {
-    pub notes: [Option<Note>; 8],
+pub struct Row<M: Message, const N: usize> {
+    pub places: [Option<M>; N],
 }
 
-impl Board {
-    pub fn pin(&mut self, note: Note) -> Result<(), Refusal>
-        ensures answer { result ≡ put_answer (has_room 8 (held self.old.notes)) }
-        ensures next { held self.new.notes ≡ put_last 8 note (held self.old.notes) }
+impl<M: Message, const N: usize> Row<M, N> {
+    pub fn put(&mut self, message: M) -> Result<(), Refusal>
+        ensures answer { result ≡ put_answer (has_room N (held self.old.places)) }
+        ensures next { held self.new.places ≡ put_last N message (held self.old.places) }
     {
-        pools::put(&mut self.notes, note)
+        pools::put(&mut self.places, message)
     }
 
-    pub fn unpin(&mut self, reader: u8, n: usize) -> Option<Note>
-        ensures answer { result ≡ nth_fitting for_reader reader n (held self.old.notes) }
-        ensures next { held self.new.notes ≡ without_nth for_reader reader n (held self.old.notes) }
+    pub fn take(&mut self, party: &M::Party, n: usize) -> Option<M>
+        ensures answer { result ≡ nth_fitting M.meets party.now n (held self.old.places) }
+        ensures next { held self.new.places ≡ without_nth M.meets party.now n (held self.old.places) }
     {
-        pools::take(&mut self.notes, &reader, n)
+        pools::take(&mut self.places, party, n)
     }
 
     pub fn free(&self) -> usize
-        ensures answer { result + length (held self.now.notes) ≡ 8 }
+        ensures answer { result + length (held self.now.places) ≡ N }
     {
-        pools::free(&self.notes)
+        pools::free(&self.places)
+    }
+
+    pub fn count_for(&self, party: &M::Party) -> usize
+        ensures answer { result ≡ length (fitting M.meets party.now (held self.now.places)) }
+    {
+        pools::count_for(&self.places, party)
     }
 }
 
-// An office has room for 64 letters.
+/// A board has room for 8 notes.
+pub type Board = Row<Note, 8>;
+
+/// An office has room for 64 letters.
 #[derive(Drop)]
 pub struct Office {
-    pub letters: [Option<Letter>; 64],
+    pub letters: Row<Letter, 64>,
     pub street: u16,
 }
 
 impl Office {
     pub fn post(&mut self, letter: Letter) -> Result<(), Refusal>
-        ensures answer { result ≡ put_answer (has_room 64 (held self.old.letters)) }
-        ensures next { held self.new.letters ≡ put_last 64 letter (held self.old.letters) }
+        ensures answer { result ≡ put_answer (has_room 64 (held self.old.letters.places)) }
+        ensures next { held self.new.letters.places ≡ put_last 64 letter (held self.old.letters.places) }
         ensures others { self.new.street ≡ self.old.street }
     {
-        pools::put(&mut self.letters, letter)
+        self.letters.put(letter)
     }
 
     pub fn deliver(&mut self, desk: Desk, n: usize) -> Option<Letter>
-        ensures answer { result ≡ nth_fitting for_desk desk n (held self.old.letters) }
-        ensures next { held self.new.letters ≡ without_nth for_desk desk n (held self.old.letters) }
+        ensures answer { result ≡ nth_fitting for_desk desk n (held self.old.letters.places) }
+        ensures next { held self.new.letters.places ≡ without_nth for_desk desk n (held self.old.letters.places) }
         ensures others { self.new.street ≡ self.old.street }
     {
-        pools::take(&mut self.letters, &desk, n)
+        self.letters.take(&desk, n)
     }
 
     pub fn waiting_for(&self, desk: Desk) -> usize
-        ensures answer { result ≡ length (fitting for_desk desk (held self.now.letters)) }
+        ensures answer { result ≡ length (fitting for_desk desk (held self.now.letters.places)) }
     {
-        pools::count_for(&self.letters, &desk)
+        self.letters.count_for(&desk)
     }
 }

@@ -7,13 +7,13 @@ fn note(reader: u8, text: u16) -> Note {
 }
 
 fn empty_board() -> Board {
-    Board { notes: [None; 8] }
+    Board { places: [None; 8] }
 }
 
 fn full_board() -> Board {
     let mut board = empty_board();
     for text in 0..8 {
-        let _ = board.pin(note(1, text));
+        let _ = board.put(note(1, text));
     }
     board
 }
@@ -21,26 +21,26 @@ fn full_board() -> Board {
 #[test]
 fn order_is_kept(rt: HostRuntime) -> Result<(), Fail> {
     let mut board = empty_board();
-    board.pin(note(1, 10))?;
-    board.pin(note(1, 11))?;
-    board.pin(note(1, 12))?;
-    assert_eq!(rt; board.unpin(1, 0), Some(note(1, 10)));
-    assert_eq!(rt; board.unpin(1, 0), Some(note(1, 11)));
-    assert_eq!(rt; board.unpin(1, 0), Some(note(1, 12)));
-    assert_eq!(rt; board.unpin(1, 0), None);
+    board.put(note(1, 10))?;
+    board.put(note(1, 11))?;
+    board.put(note(1, 12))?;
+    assert_eq!(rt; board.take(&1, 0), Some(note(1, 10)));
+    assert_eq!(rt; board.take(&1, 0), Some(note(1, 11)));
+    assert_eq!(rt; board.take(&1, 0), Some(note(1, 12)));
+    assert_eq!(rt; board.take(&1, 0), None);
     Ok(())
 }
 
 #[test]
 fn nth_that_fits(rt: HostRuntime) -> Result<(), Fail> {
     let mut board = empty_board();
-    board.pin(note(1, 10))?;
-    board.pin(note(2, 20))?;
-    board.pin(note(1, 11))?;
-    assert_eq!(rt; pools::nth(&board.notes, &1, 1), Some(note(1, 11)));
-    assert_eq!(rt; board.unpin(1, 1), Some(note(1, 11)));
-    assert_eq!(rt; board.unpin(1, 1), None);
-    assert_eq!(rt; board.unpin(2, 0), Some(note(2, 20)));
+    board.put(note(1, 10))?;
+    board.put(note(2, 20))?;
+    board.put(note(1, 11))?;
+    assert_eq!(rt; pools::nth(&board.places, &1, 1), Some(note(1, 11)));
+    assert_eq!(rt; board.take(&1, 1), Some(note(1, 11)));
+    assert_eq!(rt; board.take(&1, 1), None);
+    assert_eq!(rt; board.take(&2, 0), Some(note(2, 20)));
     assert_eq!(rt; board.free(), 7);
     Ok(())
 }
@@ -49,19 +49,19 @@ fn nth_that_fits(rt: HostRuntime) -> Result<(), Fail> {
 fn full_row_refuses(rt: HostRuntime) {
     let mut board = full_board();
     assert_eq!(rt; board.free(), 0);
-    assert_eq!(rt; board.pin(note(1, 99)), Err(Refusal::NoPlace));
-    assert_eq!(rt; pools::count(&board.notes), 8);
-    assert_eq!(rt; pools::nth(&board.notes, &1, 7), Some(note(1, 7)));
+    assert_eq!(rt; board.put(note(1, 99)), Err(Refusal::NoPlace));
+    assert_eq!(rt; pools::count(&board.places), 8);
+    assert_eq!(rt; pools::nth(&board.places, &1, 7), Some(note(1, 7)));
 }
 
 #[test]
 fn freed_place_is_used_again(rt: HostRuntime) {
     let mut board = full_board();
-    assert_eq!(rt; board.unpin(1, 3), Some(note(1, 3)));
-    assert_eq!(rt; board.pin(note(1, 99)), Ok(()));
-    assert_eq!(rt; board.pin(note(1, 100)), Err(Refusal::NoPlace));
-    assert_eq!(rt; pools::nth(&board.notes, &1, 3), Some(note(1, 4)));
-    assert_eq!(rt; pools::nth(&board.notes, &1, 7), Some(note(1, 99)));
+    assert_eq!(rt; board.take(&1, 3), Some(note(1, 3)));
+    assert_eq!(rt; board.put(note(1, 99)), Ok(()));
+    assert_eq!(rt; board.put(note(1, 100)), Err(Refusal::NoPlace));
+    assert_eq!(rt; pools::nth(&board.places, &1, 3), Some(note(1, 4)));
+    assert_eq!(rt; pools::nth(&board.places, &1, 7), Some(note(1, 99)));
 }
 
 #[test]
@@ -83,7 +83,7 @@ fn gaps_do_not_matter(rt: HostRuntime) {
 #[test]
 fn sixty_four_letters(rt: HostRuntime) -> Result<(), Fail> {
     let mut office = Office {
-        letters: [None; 64],
+        letters: Row { places: [None; 64] },
         street: 12,
     };
     let near = Desk { floor: 1, room: 1 };

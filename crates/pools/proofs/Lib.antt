@@ -1,4 +1,5 @@
+mod Chains
+mod Found
 pub mod Held
 pub mod Laws
 mod Places
-mod Steps

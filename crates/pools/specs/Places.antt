@@ -2,11 +2,6 @@
 use Rattle.std.specs.Prelude.{◌≡◌, ℕ, ◌<◌, Bool, true, false, List, length, Some, None, Option, slice_index_or, slice_set}
 use Rattle.pools.specs.Pools.{held, has_room, nth_fitting, without_nth}
 
--- a message that fits the party
-abbrev pub waits_for : {M P : Type 0} → (M → P → Bool) → P → Option M → Bool
-waits_for meets party None = false
-waits_for meets party (Some m) = meets m party
-
 -- place i holds the n-th oldest message that fits the party, and once it is cleared all others are left
 pub record Stands {M P : Type 0} (meets : M → P → Bool) (party : P) (n : ℕ) (places : List (Option M)) (i : ℕ) : Type 0 where
   pub within : i < length places

@@ -1,7 +1,8 @@
 -- Each effect of a call keeps the kept facts.
-use Rattle.std.proofs.Common.{◌≡◌, ℕ, ◌+◌, ◌≤◌, true, false, cond, ◌&&◌, eqb, ◌≢◌, ◌⊎◌, List, [], ◌∷◌, length, set, is_some, Some, None, Option, sym, refl, ap, ◌∙◌, subst, inl, inr, arith, length-set}
-use Rattle.std.proofs.lemmas.Bool.{cases_eq, cases_Bool, ne_eqb, eq-eqb}
+use Rattle.std.proofs.Common.{◌≡◌, ℕ, ◌+◌, ◌≤◌, true, false, cond, ◌&&◌, eqb, ◌≢◌, ◌⊎◌, List, length, set, Some, None, Option, sym, refl, ◌∙◌, subst, inl, inr, arith, length-set}
+use Rattle.std.proofs.lemmas.Bool.{cases_eq, ne_eqb, eq-eqb}
 use Rattle.std.proofs.lemmas.Bool.Decides.{nat_tests}
+use Rattle.std.proofs.lemmas.Option.{same_Some}
 use Rattle.std.specs.List.{slice_get}
 use Rattle.banks.specs.Bank.{BankModel}
 use Rattle.banks.proofs.OneStore.{nth_set_same, nth_set_other}
@@ -15,8 +16,9 @@ use Rattle.protocol.specs.Site.Service.{ready, given, holding}
 use Rattle.protocol.specs.Calls.{with_client, with_service, with_requests, with_replies, with_decisions, with_stores, with_state, without_reply, slot_of, posted, replied_with, waits_in, client_waits, still_waits}
 use Rattle.protocol.specs.Kept.{OpenParts, due, reply_slot, Kept}
 use Rattle.protocol.proofs.Counts.{count_put, count_put_le, count_taken, count_without, without_one}
-use Rattle.protocol.proofs.Guards.{by_option, by_phase, by_test}
-use Rattle.protocol.proofs.Room.{due_set, same_slot, bounds}
+use Rattle.protocol.proofs.Guards.{reply_to, request_of, by_posted, by_replied}
+use Rattle.protocol.proofs.Room.{due_set, one_more_reply, bounds}
+use Rattle.protocol.proofs.Tables.{first_none, by_place}
 use Rattle.protocol.proofs.Waiting.{waits, in_state, open_set, waits_at, waits_after, waits_other}
 
 -- decisions and what the stores hold concern no kept fact
@@ -59,17 +61,15 @@ kept_request request s there k =
 
 -- a message for a part that waits and has none
 pub kept_message : (r : Reply) (s : Site) → still_waits (reply_slot r) s ≡ true → length (fitting reply_for (reply_slot r) s.replies) ≡ 0 → Kept s → Kept (with_replies (put_last 32 r s.replies) s)
-kept_message r s waiting none k = record { clients = k.clients; services = k.services; some = k.some; few = k.few; parts = k.parts; requests = k.requests; replies = each }
-  where
-    each : (slot : Slot) → length (fitting reply_for slot (put_last 32 r s.replies)) ≤ cond (still_waits slot s) 1 0
-    each slot = go (cases_Bool (reply_for r slot))
-      where
-        go : (reply_for r slot ≡ true) ⊎ (reply_for r slot ≡ false) → length (fitting reply_for slot (put_last 32 r s.replies)) ≤ cond (still_waits slot s) 1 0
-        go (inl fits) = subst (λ x. length (fitting reply_for x (put_last 32 r s.replies)) ≤ cond (still_waits x s) 1 0) (same_slot r slot fits) here
-          where
-            here : length (fitting reply_for (reply_slot r) (put_last 32 r s.replies)) ≤ cond (still_waits (reply_slot r) s) 1 0
-            here = let more = count_put_le reply_for (reply_slot r) 32 r s.replies in rw waiting (grind (arith, nat_tests))
-        go (inr other) = omega (arith, rw other at (count_put_le reply_for slot 32 r s.replies), k.replies slot)
+kept_message r s waiting none k = record {
+  clients = k.clients;
+  services = k.services;
+  some = k.some;
+  few = k.few;
+  parts = k.parts;
+  requests = k.requests;
+  replies = λ slot. omega (arith, count_put_le reply_for slot 32 r s.replies, one_more_reply s k r waiting none slot);
+}
 
 -- a client changed, and the reply pool with it
 kept_client : (c : ℕ) (old new : Client) (replies : List Reply) (s : Site) → slice_get s.clients c ≡ Some old → ((parts : List OpenPart) → new.parts ≡ Some parts → OpenParts (length s.services) parts) → ((v number : ℕ) → length (fitting reply_for (record { client = c; service = v; number = number }) replies) ≤ cond (client_waits v number (Some new)) 1 0) → ((slot : Slot) → slot.client ≢ c → length (fitting reply_for slot replies) ≤ length (fitting reply_for slot s.replies)) → Kept s → Kept (with_replies replies (with_client c new s))
@@ -78,18 +78,12 @@ kept_client c old new replies s there lawful own others k = record {
   services = k.services;
   some = k.some;
   few = k.few;
-  parts = λ d client parts e f. parts_of d client parts e f (cases_eq d c);
+  parts = λ d client parts e f.
+      by_place (λ _ x. (ps : List OpenPart) → x.parts ≡ Some ps → OpenParts (length s.services) ps) s.clients c old new there lawful (λ b x _ g ps h. k.parts b x ps g h) d client e parts f;
   requests = k.requests;
   replies = λ slot. at slot (cases_eq slot.client c);
 }
   where
-    parts_of : (d : ℕ) (client : Client) (parts : List OpenPart) → slice_get (set s.clients c new) d ≡ Some client → client.parts ≡ Some parts → (d ≡ c) ⊎ (d ≡ c → ⊥) → OpenParts (length s.services) parts
-    parts_of d client parts e f (inl here) =
-        let now = nth_set_same s.clients c old new there in
-        let same : new ≡ client = cc in
-        lawful parts (ap (λ x. x.parts) same ∙ f)
-    parts_of d client parts e f (inr apart) = k.parts d client parts (sym (nth_set_other s.clients c d new apart) ∙ e) f
-
     at : (slot : Slot) → (slot.client ≡ c) ⊎ (slot.client ≡ c → ⊥) → length (fitting reply_for slot replies) ≤ cond (still_waits slot (with_client c new s)) 1 0
     at slot (inl here) =
         subst (λ x. length (fitting reply_for (record { client = x; service = slot.service; number = slot.number }) replies) ≤ cond (client_waits slot.service slot.number (slice_get (set s.clients c new) x)) 1 0) (sym here)
@@ -122,7 +116,7 @@ module _ (c p : ℕ) (client : Client) (parts : List OpenPart) (part : OpenPart)
   -- in another state, with as many messages as it then waits for
   kept_state : (state : PartState) (replies : List Reply) → ((slot : Slot) → length (fitting reply_for slot replies) ≤ length (fitting reply_for slot s.replies)) → length (fitting reply_for (slot_of c client part) replies) ≤ cond (waits state) 1 0 → Kept (with_replies replies (with_state c p state client parts part s))
   kept_state state replies less mine =
-      kept_client c client _ replies s there (λ changed e. let same : set parts p (in_state state part) ≡ changed = cc in subst (OpenParts (length s.services)) same (open_set (length s.services) parts p part state has lawful)) (λ v number. own v number (cases_eq v part.service) (cases_eq client.number number)) (λ slot apart. less slot) k
+      kept_client c client _ replies s there (λ changed e. subst (OpenParts (length s.services)) (same_Some _ changed e) (open_set (length s.services) parts p part state has lawful)) (λ v number. own v number (cases_eq v part.service) (cases_eq client.number number)) (λ slot apart. less slot) k
     where
       was : (v number : ℕ) → length (fitting reply_for (record { client = c; service = v; number = number }) s.replies) ≤ cond (eqb client.number number && waits_in v parts) 1 0
       was v number = rw (there, open_waits client parts v number is_open) at (k.replies (record { client = c; service = v; number = number }))
@@ -155,29 +149,15 @@ module _ (c p : ℕ) (client : Client) (parts : List OpenPart) (part : OpenPart)
 -- a request for a Ready service, a timeout for the part of any other
 pub kept_posted : (slot : Slot) (operations : List Operation) (s : Site) → still_waits slot s ≡ true → length (fitting reply_for slot s.replies) ≡ 0 → Kept s → Kept (posted slot operations s)
 kept_posted slot operations s waiting none k =
-    by_option Kept (slice_get s.services slot.service) _ _ (λ _. timeout) (λ service there.
-    by_phase Kept service _ _ _ _ _ (λ _. timeout)
-    (λ is_ready. kept_request (record { client = slot.client; service = slot.service; number = slot.number; operations = operations }) s (there ∙ ap Some is_ready) k)
-    (λ _. timeout) (λ _ _. timeout) (λ _ _. timeout))
-  where
-    timeout : Kept (with_replies (put_last 32 (record { client = slot.client; service = slot.service; number = slot.number; looks = None }) s.replies) s)
-    timeout = kept_message (record { client = slot.client; service = slot.service; number = slot.number; looks = None }) s waiting none k
-
--- where there is no first there is none
-none_first : {X : Type 0} (xs : List X) → is_some (slice_get xs 0) ≡ false → length xs ≡ 0
-none_first [] e = refl
-none_first (x ∷ xs) e = grind arith
+    by_posted slot operations s Kept
+    (kept_message (reply_to slot None) s waiting none k)
+    (λ is_ready. kept_request (request_of slot operations) s is_ready k)
 
 -- the answer of a service
 pub kept_replied : (slot : Slot) (looks : Option (List ℕ)) (s : Site) → Kept s → Kept (replied_with slot looks s)
 kept_replied slot looks s k =
-    by_test Kept (still_waits slot s) _ _ (λ waiting.
-    by_test Kept (is_some (nth_fitting reply_for slot 0 s.replies)) _ _ (λ _. k) (λ none.
-    kept_message (record { client = slot.client; service = slot.service; number = slot.number; looks = looks }) s waiting (none_first (fitting reply_for slot s.replies) none) k))
-    (λ _. k)
+    by_replied slot looks s Kept k
+    (λ waiting none. kept_message (reply_to slot looks) s waiting (first_none (fitting reply_for slot s.replies) none) k)
 
 pub replied_services : (slot : Slot) (looks : Option (List ℕ)) (s : Site) → (replied_with slot looks s).services ≡ s.services
-replied_services slot looks s = by_test Same (still_waits slot s) _ _ (λ _. by_test Same (is_some (nth_fitting reply_for slot 0 s.replies)) _ _ (λ _. refl) (λ _. refl)) (λ _. refl)
-  where
-    Same : Site → Type 0
-    Same t = t.services ≡ s.services
+replied_services slot looks s = by_replied slot looks s (λ t. t.services ≡ s.services) refl (λ _ _. refl)

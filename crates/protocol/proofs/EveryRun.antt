@@ -1,7 +1,8 @@
 -- The law of every run: it holds at the opening, every call keeps what it rests on, and it follows from that.
-use Rattle.std.proofs.Common.{◌≡◌, ℕ, zero, suc, ◌<◌, Bool, true, false, List, [], ◌∷◌, length, replicate, Some, None, Option, sym, refl, ap, ◌∙◌, subst, arith}
+use Rattle.std.proofs.Common.{◌≡◌, ℕ, Bool, true, false, List, [], ◌∷◌, length, Some, None, Option, sym, refl, ap, ◌∙◌, subst, arith}
 use lib.ListN.{length-replicate}
 use Rattle.std.proofs.ByRecursion.{All-weaker}
+use Rattle.std.proofs.lemmas.Option.{none-some}
 use Rattle.std.specs.Option.{option_map}
 use Rattle.std.specs.List.{slice_get}
 use Rattle.stores.specs.Pairs.{Pairs}
@@ -14,27 +15,22 @@ use Rattle.protocol.specs.Ledger.{Ledger, Engagement, Act, blank, add}
 use Rattle.protocol.specs.Ledger.Fate.{to_commit, to_abort}
 use Rattle.protocol.specs.Runs.{Call, perform}
 use Rattle.protocol.specs.Runs.Call.{ORDER, SEND, GET, EXPIRE, DECIDE, READY, DOWN, WORK, REPLY, HEAR}
-use Rattle.protocol.specs.Site.{Site, Service, Transaction, opened_site}
+use Rattle.protocol.specs.Site.{Site, Transaction, opened_site}
 use Rattle.protocol.specs.Site.Service.{down}
 use Rattle.protocol.proofs.DecideLeaf.{decide_keeps}
 use Rattle.protocol.proofs.GetLeaf.{get_keeps, expire_keeps}
 use Rattle.protocol.proofs.HearLeaf.{hear_keeps}
-use Rattle.protocol.proofs.Invariant.{Inv, Keeps, Fits, named, entries, settled_store, fate_of}
+use Rattle.protocol.proofs.Invariant.{Acted, Inv, Keeps, Fits, named, entries, settled_store, fate_of}
 use Rattle.protocol.proofs.KeptFacts.{idle_clients, kept_opened, after_call}
 use Rattle.protocol.proofs.OpenTrials.{closed_rest}
 use Rattle.protocol.proofs.OrderLeaf.{order_keeps}
 use Rattle.protocol.proofs.ReplyLeaf.{reply_keeps}
 use Rattle.protocol.proofs.SendLeaf.{send_keeps}
 use Rattle.protocol.proofs.ServiceLeaves.{ready_keeps, down_keeps}
-use Rattle.protocol.proofs.Tables.{none_is_some, by_map}
+use Rattle.protocol.proofs.Tables.{copied, by_map}
 use Rattle.protocol.proofs.WorkLeaf.{work_keeps}
 
-pub down_services : (n v : ℕ) (x : Service) → slice_get (replicate n down) v ≡ Some x → x ≡ down
-down_services zero v x e = none_is_some x e
-down_services (suc n) zero x e = cc
-down_services (suc n) (suc v) x e = down_services n v x e
-
-rolled_back : (capacity : ℕ) (committed : Pairs) (o : Option Trial) → (roll_back_step (record { capacity = capacity; committed = committed; trial = o })).next.trial ≡ None
+pub rolled_back : (capacity : ℕ) (committed : Pairs) (o : Option Trial) → (roll_back_step (record { capacity = capacity; committed = committed; trial = o })).next.trial ≡ None
 rolled_back capacity committed None = refl
 rolled_back capacity committed (Some t) = refl
 
@@ -58,19 +54,19 @@ opened_inv firsts stores = record {
   pending_open = λ t k below _ _. absurd (omega arith);
   decided_past = λ t k below _ _. absurd (omega arith);
   fresh = λ t _. refl;
-  opens = λ c k ps there is_open. none_is_some ps (sym (idle_clients firsts c k there) ∙ is_open);
-  answered = λ c t p k ps part there is_open _ _ _. none_is_some ps (sym (idle_clients firsts c k there) ∙ is_open);
-  fits = λ v x m phase store. subst (λ y. Fits (entries no_names blank) v y (blank.service v) m) (sym (down_services (length stores) v x phase)) (refl, closed_stores stores v m store);
-  asks = λ j r e. none_is_some r e;
-  says = λ j r looks e _. none_is_some r e;
-  tells = λ j d e. none_is_some d e;
+  opens = λ c k ps there is_open. absurd (none-some ps (sym (idle_clients firsts c k there) ∙ is_open));
+  answered = λ c t p k ps part there is_open _ _ _. absurd (none-some ps (sym (idle_clients firsts c k there) ∙ is_open));
+  fits = λ v x m phase store. subst (λ y. Fits (entries no_names blank) v y (blank.service v) m) (sym (copied (length stores) down v x phase)) (refl, closed_stores stores v m store);
+  asks = λ j r e. absurd (none-some r e);
+  says = λ j r looks e _. absurd (none-some r e);
+  tells = λ j d e. absurd (none-some d e);
   done = tt;
   in_line = tt;
   right = tt;
   settled = settled_all (each_store roll_back_step stores) (closed_stores stores);
 }
 
-obeyed_act : (l : Ledger) (a : Act) → (a.entry < l.entered) × (l.fate a.entry ≡ fate_of a.commits) → Obeyed l a
+obeyed_act : (l : Ledger) (a : Act) → Acted l a → Obeyed l a
 obeyed_act l a h = go a.commits refl
   where
     apart : to_abort ≡ to_commit → ⊥
@@ -86,13 +82,10 @@ settled_mapped l e (Some m) = refl
 
 law_from : (start : BankModel) (s : Site) (l : Ledger) (N : ℕ → Transaction) → Inv start s l N → Law start l s.stores
 law_from start s l N I = record {
-  obeyed = All-weaker (λ a. (a.entry < l.entered) × (l.fate a.entry ≡ fate_of a.commits)) (Obeyed l) (obeyed_act l) l.acts I.done;
+  obeyed = All-weaker (Acted l) (Obeyed l) (obeyed_act l) l.acts I.done;
   right = I.right;
   settled = λ v. ap (option_map (λ m. m.committed)) (I.settled v) ∙ settled_mapped l (l.service v) (slice_get s.stores v);
 }
-
-along_size : (call : Call) (start : BankModel) (s : Site) (l : Ledger) (N : ℕ → Transaction) (services : ℕ) → length s.services ≡ services → Inv start (perform call s).next (add (length s.services) call (perform call s).answer l) N → Inv start (perform call s).next (add services call (perform call s).answer l) N
-along_size call start s l N services size I = subst (λ n. Inv start (perform call s).next (add n call (perform call s).answer l) N) size I
 
 -- every call keeps the invariant
 keeps : (call : Call) → Keeps call
@@ -113,7 +106,7 @@ told_law start services (call ∷ calls) s l N size k I =
     let next = keeps call start s l N k I in
     let (kept, stays) = after_call call s k in
     told_law start services calls (perform call s).next (add services call (perform call s).answer l) next.0
-    (stays ∙ size) kept (along_size call start s l next.0 services size next.1)
+    (stays ∙ size) kept (subst (λ n. Inv start (perform call s).next (add n call (perform call s).answer l) next.0) size next.1)
 
 pub law_of_every_run : LawOfEveryRun
 law_of_every_run firsts stores calls eight sound =

@@ -1,15 +1,14 @@
 -- GET and EXPIRE keep the invariant: a part that waited is answered or given up.
-use Rattle.std.proofs.Common.{◌≡◌, ℕ, ltb, List, length, Some, None, Ok, Option, ap, ◌∙◌, subst, arith}
+use Rattle.std.proofs.Common.{◌≡◌, ℕ, List, Some, Option, ap, ◌∙◌, subst, arith}
 use Rattle.std.specs.List.{slice_get}
 use Rattle.banks.specs.Bank.{BankModel}
 use Rattle.pools.specs.Pools.{nth_fitting}
 use Rattle.protocol.specs.declared.types.PartState.TheVariants.{Replied, TimedOut}
-use Rattle.protocol.specs.Calls.{Outcome, with_state, without_reply, slot_of}
-use Rattle.protocol.specs.Calls.Answer.{looked}
-use Rattle.protocol.specs.Ledger.{Ledger, add, put_at, with_noted}
+use Rattle.protocol.specs.Calls.{with_state, without_reply, slot_of}
+use Rattle.protocol.specs.Ledger.{Ledger, add_accepted, put_at, with_noted}
 use Rattle.protocol.specs.Runs.Call.{GET, EXPIRE}
 use Rattle.protocol.specs.Site.{Site, Client, OpenPart, Transaction, Reply, reply_for}
-use Rattle.protocol.proofs.Guards.{by_option, by_test, by_waiting}
+use Rattle.protocol.proofs.Guards.{by_get, by_expire}
 use Rattle.protocol.proofs.Invariant.{Inv, KeptAfter, Keeps, PromisedYes, named}
 use Rattle.protocol.proofs.Pieces.{gone_keeps, noted_keeps, state_keeps}
 use Rattle.protocol.proofs.Room.{same_slot}
@@ -43,28 +42,13 @@ module _ (start : BankModel) (s : Site) (l : Ledger) (N : ℕ → Transaction) (
           let fits = same_slot r (slot_of c client part) (taken_fits reply_for (slot_of c client part) 0 r s.replies taken) in
           subst (λ x. PromisedYes s.services x.service (named x.client x.number) looks) fits (I.says was.place r looks was.there looks_are)
 
-  -- the ledger notes it of the client's newest entry
-  noted_newest : (room : ℕ) (looks : List ℕ) → add (length s.services) (GET c p room) (Ok (looked looks)) l ≡ with_noted entry p looks l
-  noted_newest room looks = go (l.newest c) (I.opens c client parts there is_open).is_newest
-    where
-      go : (o : Option ℕ) → o ≡ Some entry → (elim o [ None ↦ l | Some t ↦ with_noted t p looks l ]) ≡ with_noted entry p looks l
-      go None e = grind arith
-      go (Some u) e = let same : u ≡ entry = cc in ap (λ t. with_noted t p looks l) same
-
 pub get_keeps : (c p room : ℕ) → Keeps (GET c p room)
 get_keeps c p room start s l N k I =
-    by_waiting s P (λ _ _. (N, I)) c p _ (λ client parts part there is_open has _.
-    by_option P (nth_fitting reply_for (slot_of c client part) 0 s.replies) _ _ (λ _. (N, I)) (λ r taken.
-    by_option P r.looks _ _ (λ _. (N, part_given_up start s l N I c p client parts part there is_open has)) (λ looks looks_are.
-    by_test P (ltb room (length looks)) _ _ (λ _. (N, I)) (λ _.
-    (N, rw (noted_newest start s l N I c p client parts part there is_open has room looks) (part_replied start s l N I c p client parts part there is_open has r looks taken looks_are))))))
-  where
-    P : Outcome → Type 0
-    P = KeptAfter start s l (GET c p room)
+    by_get s (KeptAfter start s l (GET c p room)) (λ _ _. (N, I)) c p room
+    (λ client parts part there is_open has _. (N, part_given_up start s l N I c p client parts part there is_open has))
+    (λ client parts part there is_open has _ r looks taken looks_are.
+    (N, rw ((I.opens c client parts there is_open).is_newest, add_accepted) (part_replied start s l N I c p client parts part there is_open has r looks taken looks_are)))
 
 pub expire_keeps : (c p : ℕ) → Keeps (EXPIRE c p)
 expire_keeps c p start s l N k I =
-    by_waiting s P (λ _ _. (N, I)) c p _ (λ client parts part there is_open has _. (N, part_given_up start s l N I c p client parts part there is_open has))
-  where
-    P : Outcome → Type 0
-    P = KeptAfter start s l (EXPIRE c p)
+    by_expire s (KeptAfter start s l (EXPIRE c p)) (λ _ _. (N, I)) c p (λ client parts part there is_open has _. (N, part_given_up start s l N I c p client parts part there is_open has))

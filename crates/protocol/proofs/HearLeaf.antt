@@ -1,12 +1,12 @@
 -- HEAR keeps the invariant: a decision discarded changes nothing, one obeyed ends what its service holds.
-use Rattle.std.proofs.Common.{◌≡◌, ℕ, Bool, true, false, cond, List, ◌∷◌, Some, sym, refl, ap, ◌∙◌, subst, arith}
+use Rattle.std.proofs.Common.{◌≡◌, ℕ, Bool, true, false, List, ◌∷◌, Some, sym, refl, ap, ◌∙◌, arith}
 use Rattle.std.proofs.lemmas.Bool.Decides.{nat_tests}
 use Rattle.std.specs.List.{slice_get}
 use Rattle.stores.specs.Store.{StoreModel, Trial, Step, with_committed, commit_step, roll_back_step}
 use Rattle.banks.specs.Bank.{BankModel, at_store}
 use Rattle.banks.proofs.OneStore.{bank_laws}
 use Rattle.pools.specs.Pools.{nth_fitting, without_nth}
-use Rattle.protocol.specs.Calls.{Outcome, accept, heard, discarded, with_decisions, is_for, ended, take_decision}
+use Rattle.protocol.specs.Calls.{with_decisions, is_for, ended}
 use Rattle.protocol.specs.Kept.{Kept}
 use Rattle.protocol.specs.Law.{settled_by}
 use Rattle.protocol.specs.Ledger.{Ledger, with_engagement, with_act, put_at}
@@ -14,7 +14,7 @@ use Rattle.protocol.specs.Ledger.Engagement.{off, engaged}
 use Rattle.protocol.specs.Runs.Call.{HEAR}
 use Rattle.protocol.specs.Site.{Site, Transaction, Hold, Decision, decision_for}
 use Rattle.protocol.specs.Site.Service.{down, promised}
-use Rattle.protocol.proofs.Guards.{by_test, by_service, by_phase, by_decision}
+use Rattle.protocol.proofs.Guards.{by_hear}
 use Rattle.protocol.proofs.Invariant.{named, fate_of, fate_decided, entries, Held, Decides, Inv, KeptAfter, Keeps}
 use Rattle.protocol.proofs.OpenTrials.{working_open, commit_settles, roll_back_settles}
 use Rattle.protocol.proofs.Phases.{moved_site, moved, asks_stay}
@@ -27,9 +27,6 @@ same_name t d yes_for =
     let client : t.client ≡ d.client = grind (arith, nat_tests) in
     let number : t.number ≡ d.number = grind (arith, nat_tests) in
     λ i. record { client = client i; number = number i }
-
-ended_is : (v entry : ℕ) (b : Bool) (l : Ledger) → l.service v ≡ engaged entry → Rattle.protocol.specs.Ledger.ended v b l ≡ with_engagement v off (with_act entry b l)
-ended_is v entry b l e = rw (e, Rattle.protocol.specs.Ledger.ended) refl
 
 module _ (v n : ℕ) (start : BankModel) (s : Site) (l : Ledger) (N : ℕ → Transaction) (k : Kept s) (I : Inv start s l N) (d : Decision) (taken : nth_fitting decision_for v n s.decisions ≡ Some d) where
   -- the decisions that are left
@@ -51,7 +48,7 @@ module _ (v n : ℕ) (start : BankModel) (s : Site) (l : Ledger) (N : ℕ → Tr
       let same : decides.entry ≡ held.entry = I.unique decides.entry held.entry decides.entered held.entered (decides.name ∙ sym (same_name hold.transaction d is_its) ∙ sym held.name) in
       let fate : l.fate held.entry ≡ fate_of b = ap l.fate (sym same) ∙ decides.fate ∙ ap fate_of commits in
       let (t, is_open) = working_open held.operations m held.working in
-      subst (λ ledger. Inv start (moved_site s v down s.requests left (at_store v step s.stores).next) ledger N) (sym (ended_is v held.entry b l held.is_engaged))
+      rw (held.is_engaged, Rattle.protocol.specs.Ledger.ended)
       (moved start s l N v down s.requests left (at_store v step s.stores).next (put_at l.service v off) (record { entry = held.entry; commits = b } ∷ l.acts) k I (record {
         old = promised hold;
         was = m;
@@ -75,22 +72,9 @@ module _ (v n : ℕ) (start : BankModel) (s : Site) (l : Ledger) (N : ℕ → Tr
 
 pub hear_keeps : (v n : ℕ) → Keeps (HEAR v n)
 hear_keeps v n start s l N k I =
-    by_service s P (λ _ _. (N, I)) v _ (λ service there.
-    by_phase P service _ _ _ _ _ (λ _. dropped) (λ _. dropped) (λ _. (N, I)) (λ _ _. (N, I)) (λ hold is_promised.
-    by_decision s P (λ _ _. (N, I)) v n (λ d t. cond (is_for hold.transaction d) (ended v d.commits t) (accept (heard discarded) t)) (λ d taken.
-    by_test P (is_for hold.transaction d) (ended v d.commits rest) (accept (heard discarded) rest)
-    (λ is_its. ends hold d taken (there ∙ ap Some is_promised) is_its d.commits refl)
-    (λ _. (N, drops v n start s l N k I d taken)))))
+    by_hear s (KeptAfter start s l (HEAR v n)) (λ _ _. (N, I)) v n (λ d taken. (N, drops v n start s l N k I d taken))
+    (λ hold d taken there is_its. ends hold d taken there is_its d.commits refl)
   where
-    P : Outcome → Type 0
-    P = KeptAfter start s l (HEAR v n)
-
-    rest : Site
-    rest = with_decisions (without_nth decision_for v n s.decisions) s
-
-    dropped : P (take_decision v n s (λ _ t. accept (heard discarded) t))
-    dropped = by_decision s P (λ _ _. (N, I)) v n (λ _ t. accept (heard discarded) t) (λ d taken. (N, drops v n start s l N k I d taken))
-
-    ends : (hold : Hold) (d : Decision) → nth_fitting decision_for v n s.decisions ≡ Some d → slice_get s.services v ≡ Some (promised hold) → is_for hold.transaction d ≡ true → (b : Bool) → d.commits ≡ b → P (ended v b rest)
+    ends : (hold : Hold) (d : Decision) → nth_fitting decision_for v n s.decisions ≡ Some d → slice_get s.services v ≡ Some (promised hold) → is_for hold.transaction d ≡ true → (b : Bool) → d.commits ≡ b → KeptAfter start s l (HEAR v n) (ended v b (with_decisions (without_nth decision_for v n s.decisions) s))
     ends hold d taken there is_its true commits = (N, obeys v n start s l N k I d taken hold true commit_step there is_its commits commit_settles)
     ends hold d taken there is_its false commits = (N, obeys v n start s l N k I d taken hold false roll_back_step there is_its commits roll_back_settles)

@@ -11,7 +11,7 @@ use Rattle.protocol.specs.declared.types.PartState.TheVariants.{Replied}
 use Rattle.protocol.specs.Calls.{Outcome}
 use Rattle.protocol.specs.Kept.{Kept}
 use Rattle.protocol.specs.Law.{LineRight, single_file, settled_pairs}
-use Rattle.protocol.specs.Ledger.{Ledger, Fate, Engagement, add}
+use Rattle.protocol.specs.Ledger.{Ledger, Fate, Engagement, Act, add}
 use Rattle.protocol.specs.Ledger.Engagement.{off, on, engaged}
 use Rattle.protocol.specs.Ledger.Fate.{undecided, to_commit, to_abort}
 use Rattle.protocol.specs.Runs.{Call, perform}
@@ -105,6 +105,10 @@ pub record PromisedYes (services : List Service) (v : ℕ) (t : Transaction) (lo
   pub vote : hold.vote ≡ Yes
   pub looks_are : hold.looks ≡ looks
 
+-- look numbers are noted of an entry's part, and its service is so promised with them
+abbrev pub Noted : (ℕ → ℕ → Option (List ℕ)) → List Service → ℕ → ℕ → Transaction → OpenPart → Type 0
+Noted noted services entry place t part = (looks : List ℕ) × (noted entry place ≡ Some looks) × PromisedYes services part.service t looks
+
 -- a request is for the entry that its service is engaged with
 pub record Asks (E : Entries) (e : Engagement) (r : Request) : Type 0 where
   pub entry : ℕ
@@ -120,6 +124,13 @@ pub record Decides (E : Entries) (d : Decision) : Type 0 where
   pub name : E.name entry ≡ named d.client d.number
   pub fate : E.fate entry ≡ fate_of d.commits
 
+-- what a service did with an entry is its fate
+abbrev pub Acted : Ledger → Act → Type 0
+Acted l a = (a.entry < l.entered) × (l.fate a.entry ≡ fate_of a.commits)
+
+abbrev pub Committed : Ledger → ℕ → Type 0
+Committed l t = (t < l.entered) × (l.fate t ≡ to_commit)
+
 -- a store as the single-file run should leave it
 abbrev pub settled_store : Ledger → Engagement → StoreModel → StoreModel
 settled_store l e m = record { capacity = m.capacity; committed = settled_pairs l e m; trial = None }
@@ -132,7 +143,7 @@ pub record Inv (start : BankModel) (s : Site) (l : Ledger) (N : ℕ → Transact
   pub fresh : (t : ℕ) → l.entered ≤ t → l.fate t ≡ undecided
   -- clients
   pub opens : (c : ℕ) (k : Client) (ps : List OpenPart) → slice_get s.clients c ≡ Some k → k.parts ≡ Some ps → Open (entries N l) (l.newest c) c k.number ps
-  pub answered : (c t p : ℕ) (k : Client) (ps : List OpenPart) (part : OpenPart) → slice_get s.clients c ≡ Some k → k.parts ≡ Some ps → slice_get ps p ≡ Some part → part.state ≡ Replied → l.newest c ≡ Some t → (looks : List ℕ) × (l.noted t p ≡ Some looks) × PromisedYes s.services part.service (named c k.number) looks
+  pub answered : (c t p : ℕ) (k : Client) (ps : List OpenPart) (part : OpenPart) → slice_get s.clients c ≡ Some k → k.parts ≡ Some ps → slice_get ps p ≡ Some part → part.state ≡ Replied → l.newest c ≡ Some t → Noted l.noted s.services t p (named c k.number) part
   -- services
   pub fits : (v : ℕ) (x : Service) (m : StoreModel) → slice_get s.services v ≡ Some x → slice_get s.stores v ≡ Some m → Fits (entries N l) v x (l.service v) m
   -- pools
@@ -140,8 +151,8 @@ pub record Inv (start : BankModel) (s : Site) (l : Ledger) (N : ℕ → Transact
   pub says : (j : ℕ) (r : Reply) (looks : List ℕ) → slice_get s.replies j ≡ Some r → r.looks ≡ Some looks → PromisedYes s.services r.service (named r.client r.number) looks
   pub tells : (j : ℕ) (d : Decision) → slice_get s.decisions j ≡ Some d → Decides (entries N l) d
   -- the law so far
-  pub done : AllByRecursion (λ a. (a.entry < l.entered) × (l.fate a.entry ≡ fate_of a.commits)) l.acts
-  pub in_line : AllByRecursion (λ t. (t < l.entered) × (l.fate t ≡ to_commit)) l.line
+  pub done : AllByRecursion (Acted l) l.acts
+  pub in_line : AllByRecursion (Committed l) l.line
   pub right : LineRight l start l.line
   pub settled : (v : ℕ) → slice_get (single_file l start l.line) v ≡ option_map (settled_store l (l.service v)) (slice_get s.stores v)
 

@@ -1,28 +1,29 @@
 -- The kept facts of every run: they hold of an opened site, and every call keeps them, and the number of services.
-use Rattle.std.proofs.Common.{◌≡◌, ℕ, zero, suc, ◌+◌, ◌<◌, ◌≤◌, Bool, true, false, cond, eqb, ltb, List, [], ◌∷◌, map, length, replicate, Some, None, sym, refl, ap, ◌∙◌, subst, arith, length-set}
+use Rattle.std.proofs.Common.{◌≡◌, ℕ, zero, suc, ◌<◌, ◌≤◌, Bool, true, false, List, [], ◌∷◌, map, length, replicate, Some, None, sym, refl, ap, ◌∙◌, subst, arith, length-set}
 use lib.ListN.{length-map, length-replicate}
 use Rattle.std.proofs.lemmas.Bool.{and_right, cases_order}
+use Rattle.std.proofs.lemmas.Option.{none-some, same_Some}
 use Rattle.std.specs.List.{slice_get}
 use Rattle.stores.specs.Store.{begin_step, commit_step, roll_back_step}
 use Rattle.banks.specs.Bank.{BankModel, at_store}
 use Rattle.banks.proofs.OneStore.{bank_laws}
-use Rattle.pools.specs.Pools.{nth_fitting, without_nth}
+use Rattle.pools.specs.Pools.{without_nth}
 use Rattle.scripts.specs.declared.types.Operation.{Operation}
 use Rattle.scripts.proofs.Lawful.{script_laws}
 use Rattle.scripts.specs.Laws.{nth_part, LawfulParts}
-use Rattle.scripts.specs.Reading.{Part, read_script}
+use Rattle.scripts.specs.Reading.{Part}
 use Rattle.parts.specs.Runs.{BankRun}
 use Rattle.protocol.specs.declared.types.PartState.TheVariants.{Replied, TimedOut, Waiting}
-use Rattle.protocol.specs.Site.{OpenPart, Client, Hold, Site, request_for, reply_for, decision_for, opened_site, Slot}
+use Rattle.protocol.specs.Site.{OpenPart, Client, Hold, Site, decision_for, opened_site, Slot}
 use Rattle.protocol.specs.Site.Service.{down, ready, holding, promised}
-use Rattle.protocol.specs.Calls.{Outcome, accept, heard, discarded, with_decisions, slot_of, unsent, order, send, get, expire, pending_from, decide, make_ready, make_down, run_in_trial, work, client_waits, is_for, ended, take_decision, hear, reply, with_state, posted}
+use Rattle.protocol.specs.Calls.{Outcome, with_decisions, slot_of, unsent, run_in_trial, client_waits, ended, with_state, posted}
 use Rattle.protocol.specs.Kept.{OpenParts, due, Kept, KeptLaws}
 use Rattle.protocol.specs.Runs.{Call, perform, play}
 use Rattle.protocol.specs.Runs.Call.{ORDER, SEND, GET, EXPIRE, DECIDE, READY, DOWN, WORK, REPLY, HEAR}
 use Rattle.protocol.proofs.Effects.{kept_decisions, kept_stores, kept_phase, kept_served, kept_idle, kept_sent, sent_waits, unsent_none, kept_answered, kept_posted, kept_replied, replied_services, open_waits}
-use Rattle.protocol.proofs.Guards.{by_option, by_result, by_test, by_state, by_phase, by_client, by_open, by_part, by_waiting, by_service, by_decision}
+use Rattle.protocol.proofs.Guards.{by_option, by_result, by_posted, by_order, by_send, by_get, by_expire, by_decide, by_ready, by_down, by_work, by_reply, by_hear}
 use Rattle.protocol.proofs.Room.{bounds}
-use Rattle.protocol.proofs.Tables.{none_is_some, by_map}
+use Rattle.protocol.proofs.Tables.{by_map}
 use Rattle.protocol.proofs.Waiting.{none_waits}
 
 -- a site as it is opened
@@ -40,15 +41,15 @@ kept_opened firsts stores eight some few = record {
   services = length-replicate (length stores) down ∙ sym (length-map stores _);
   some = rw length-replicate some;
   few = rw length-replicate few;
-  parts = λ c client parts e f. none_is_some parts (sym (idle_clients firsts c client e) ∙ f);
+  parts = λ c client parts e f. absurd (none-some parts (sym (idle_clients firsts c client e) ∙ f));
   requests = λ v. sym (due_down (length stores) v);
   replies = λ slot. omega arith;
 }
 
 -- the parts of an accepted script, as they stand in a new transaction
 unsent_at : (parts : List Part) (p : ℕ) (part : OpenPart) → slice_get (map unsent parts) p ≡ Some part → (p < length parts) × ((nth_part parts p).service ≡ part.service)
-unsent_at [] p part e = grind arith
-unsent_at (first ∷ parts) zero part e = let same : unsent first ≡ part = cc in (omega arith, ap (λ x. x.service) same)
+unsent_at [] p part e = absurd (none-some part e)
+unsent_at (first ∷ parts) zero part e = (omega arith, ap (λ x. x.service) (same_Some (unsent first) part e))
 unsent_at (first ∷ parts) (suc p) part e = let ih = unsent_at parts p part e in (omega arith, ih.1)
 
 open_read : (services : ℕ) (parts : List Part) → LawfulParts services parts → OpenParts services (map unsent parts)
@@ -82,108 +83,38 @@ run_length v operations stores =
     begun = bank_laws.count_stays v begin_step stores
 
 posted_stay : (slot : Slot) (operations : List Operation) (s : Site) → length (posted slot operations s).services ≡ length s.services
-posted_stay slot operations s =
-    by_option Same (slice_get s.services slot.service) _ _ (λ _. refl)
-    (λ service _. by_phase Same service _ _ _ _ _ (λ _. refl) (λ _. length-set _ _ _) (λ _. refl) (λ _ _. refl) (λ _ _. refl))
-  where
-    Same : Site → Type 0
-    Same t = length t.services ≡ length s.services
+posted_stay slot operations s = by_posted slot operations s (λ t. length t.services ≡ length s.services) refl (λ _. length-set _ _ _)
 
 kept_ended : (v : ℕ) (hold : Hold) (commits : Bool) (s : Site) → slice_get s.services v ≡ Some (promised hold) → Kept s → After s (ended v commits s)
 kept_ended v hold true s there k = (kept_phase v (promised hold) down _ there refl (kept_stores _ s (bank_laws.count_stays v commit_step s.stores) k), length-set _ _ _)
 kept_ended v hold false s there k = (kept_phase v (promised hold) down _ there refl (kept_stores _ s (bank_laws.count_stays v roll_back_step s.stores) k), length-set _ _ _)
 
-module _ (s : Site) (k : Kept s) where
-  abbrev So : Outcome → Type 0
-  So = After s
-
-  unchanged : Kept s × (length s.services ≡ length s.services)
-  unchanged = (k, refl)
-
-  kept_order : (c : ℕ) (script : List ℕ) → So (order c script s)
-  kept_order c script =
-      by_client s So (λ _ _. unchanged) c _ (λ client there.
-      by_option So client.parts _ _ (λ idle.
-      by_test So (eqb client.number 4294967295) _ _ (λ _. unchanged) (λ _.
-      by_result So (read_script (length s.services) script) _ _ (λ parts accepted.
-      (kept_idle c client _ s there (λ v number. rw (idle, client_waits) (and_right _ false refl)) (λ opened e. let same : map unsent parts ≡ opened = cc in subst (OpenParts (length s.services)) same (open_read _ parts (script_laws.accepted _ script parts accepted))) k, refl)) (λ _ _. unchanged)))
-      (λ _ _. unchanged))
-
-  kept_send : (c p : ℕ) → So (send c p s)
-  kept_send c p =
-      by_part s So (λ _ _. unchanged) c p _ (λ client parts part there is_open has.
-      by_state So part.state _ _ _ _ (λ is_unsent.
-      (kept_posted (slot_of c client part) part.operations _ (sent_waits c p client parts part s there is_open has k) (unsent_none c p client parts part s there is_open has k is_unsent) (kept_sent c p client parts part s there is_open has k), posted_stay (slot_of c client part) part.operations (with_state c p Waiting client parts part s)))
-      (λ _. unchanged) (λ _. unchanged) (λ _. unchanged))
-
-  kept_get : (c p room : ℕ) → So (get c p room s)
-  kept_get c p room =
-      by_waiting s So (λ _ _. unchanged) c p _ (λ client parts part there is_open has _.
-      by_option So (nth_fitting reply_for (slot_of c client part) 0 s.replies) _ _ (λ _. unchanged) (λ r _.
-      by_option So r.looks _ _ (λ _. (kept_answered c p client parts part s there is_open has k TimedOut refl, refl)) (λ looks _.
-      by_test So (ltb room (length looks)) _ _ (λ _. unchanged) (λ _. (kept_answered c p client parts part s there is_open has k Replied refl, refl)))))
-
-  kept_expire : (c p : ℕ) → So (expire c p s)
-  kept_expire c p = by_waiting s So (λ _ _. unchanged) c p _ (λ client parts part there is_open has _. (kept_answered c p client parts part s there is_open has k TimedOut refl, refl))
-
-  kept_decide : (c : ℕ) (wish : Bool) → So (decide c wish s)
-  kept_decide c wish =
-      by_open s So (λ _ _. unchanged) c _ (λ client parts there is_open.
-      by_option So (pending_from 0 parts) _ _ (λ none.
-      by_test So (ltb 64 (length s.decisions + length parts)) _ _ (λ _. unchanged) (λ _.
-      (kept_decisions _ _ (kept_idle c client _ s there (λ v number. open_waits client parts v number is_open ∙ and_right _ _ (none_waits 0 v parts none)) (λ opened e. none_is_some opened e) k), refl)))
-      (λ _ _. unchanged))
-
-  kept_ready : (v : ℕ) → So (make_ready v s)
-  kept_ready v =
-      by_service s So (λ _ _. unchanged) v _ (λ service there.
-      by_phase So service _ _ _ _ _ (λ is_down. (kept_phase v down ready s (there ∙ ap Some is_down) refl k, length-set _ _ _)) (λ _. unchanged) (λ _. unchanged) (λ _ _. unchanged) (λ _ _. unchanged))
-
-  kept_down : (v : ℕ) → So (make_down v s)
-  kept_down v =
-      by_service s So (λ _ _. unchanged) v _ (λ service there.
-      by_phase So service _ _ _ _ _ (λ _. unchanged) (λ is_ready. (kept_phase v ready down s (there ∙ ap Some is_ready) refl k, length-set _ _ _)) (λ _. unchanged) (λ _ _. unchanged) (λ _ _. unchanged))
-
-  kept_work : (v : ℕ) → So (work v s)
-  kept_work v =
-      by_service s So (λ _ _. unchanged) v _ (λ service there.
-      by_phase So service _ _ _ _ _ (λ _. unchanged) (λ _. unchanged)
-      (λ is_given. by_option So (nth_fitting request_for v 0 s.requests) _ _ (λ _. unchanged) (λ request waits.
-      (kept_stores _ _ (run_length v request.operations s.stores) (kept_served v _ request s (there ∙ ap Some is_given) waits k), length-set _ _ _)))
-      (λ _ _. unchanged) (λ _ _. unchanged))
-
-  kept_reply : (v : ℕ) (passed : Bool) → So (reply v passed s)
-  kept_reply v passed =
-      by_service s So (λ _ _. unchanged) v _ (λ service there.
-      by_phase So service _ _ _ _ _ (λ _. unchanged) (λ _. unchanged) (λ _. unchanged)
-      (λ hold is_holding. (kept_phase v (holding hold) (promised hold) _ (ap (λ services. slice_get services v) (replied_services _ _ s) ∙ there ∙ ap Some is_holding) refl (kept_replied _ _ s k), length-set _ _ _ ∙ ap length (replied_services _ _ s)))
-      (λ _ _. unchanged))
-
-  kept_discard : (v n : ℕ) → So (take_decision v n s (λ _ t. accept (heard discarded) t))
-  kept_discard v n = by_decision s So (λ _ _. unchanged) v n (λ _ t. accept (heard discarded) t) (λ _ _. (kept_decisions _ s k, refl))
-
-  kept_hear : (v n : ℕ) → So (hear v n s)
-  kept_hear v n =
-      by_service s So (λ _ _. unchanged) v _ (λ service there.
-      by_phase So service _ _ _ _ _ (λ _. kept_discard v n) (λ _. kept_discard v n) (λ _. unchanged) (λ _ _. unchanged)
-      (λ hold is_promised.
-      by_decision s So (λ _ _. unchanged) v n (λ d t. cond (is_for hold.transaction d) (ended v d.commits t) (accept (heard discarded) t)) (λ d _.
-      let t = with_decisions (without_nth decision_for v n s.decisions) s in
-      by_test So (is_for hold.transaction d) (ended v d.commits t) (accept (heard discarded) t)
-      (λ _. kept_ended v hold d.commits t (there ∙ ap Some is_promised) (kept_decisions _ s k))
-      (λ _. (kept_decisions _ s k, refl)))))
-
 pub after_call : (call : Call) (s : Site) → Kept s → After s (perform call s)
-after_call (ORDER c script) s k = kept_order s k c script
-after_call (SEND c p) s k = kept_send s k c p
-after_call (GET c p room) s k = kept_get s k c p room
-after_call (EXPIRE c p) s k = kept_expire s k c p
-after_call (DECIDE c wish) s k = kept_decide s k c wish
-after_call (READY v) s k = kept_ready s k v
-after_call (DOWN v) s k = kept_down s k v
-after_call (WORK v) s k = kept_work s k v
-after_call (REPLY v passed) s k = kept_reply s k v passed
-after_call (HEAR v n) s k = kept_hear s k v n
+after_call (ORDER c script) s k =
+    by_order s (After s) (λ _ _. (k, refl)) c script (λ client parts there idle accepted.
+    (kept_idle c client _ s there (λ v number. rw (idle, client_waits) (and_right _ false refl)) (λ opened e. subst (OpenParts (length s.services)) (same_Some _ opened e) (open_read _ parts (script_laws.accepted _ script parts accepted))) k, refl))
+after_call (SEND c p) s k =
+    by_send s (After s) (λ _ _. (k, refl)) c p (λ client parts part there is_open has is_unsent.
+    (kept_posted (slot_of c client part) part.operations _ (sent_waits c p client parts part s there is_open has k) (unsent_none c p client parts part s there is_open has k is_unsent) (kept_sent c p client parts part s there is_open has k), posted_stay (slot_of c client part) part.operations (with_state c p Waiting client parts part s)))
+after_call (GET c p room) s k =
+    by_get s (After s) (λ _ _. (k, refl)) c p room (λ client parts part there is_open has _. (kept_answered c p client parts part s there is_open has k TimedOut refl, refl))
+    (λ client parts part there is_open has _ _ _ _ _. (kept_answered c p client parts part s there is_open has k Replied refl, refl))
+after_call (EXPIRE c p) s k =
+    by_expire s (After s) (λ _ _. (k, refl)) c p (λ client parts part there is_open has _. (kept_answered c p client parts part s there is_open has k TimedOut refl, refl))
+after_call (DECIDE c wish) s k =
+    by_decide s (After s) (λ _ _. (k, refl)) c wish (λ client parts there is_open none.
+    (kept_decisions _ _ (kept_idle c client _ s there (λ v number. open_waits client parts v number is_open ∙ and_right _ _ (none_waits 0 v parts none)) (λ opened e. absurd (none-some opened e)) k), refl))
+after_call (READY v) s k = by_ready s (After s) (λ _ _. (k, refl)) v (λ there. (kept_phase v down ready s there refl k, length-set _ _ _))
+after_call (DOWN v) s k = by_down s (After s) (λ _ _. (k, refl)) v (λ there. (kept_phase v ready down s there refl k, length-set _ _ _))
+after_call (WORK v) s k =
+    by_work s (After s) (λ _ _. (k, refl)) v (λ request there waits.
+    (kept_stores _ _ (run_length v request.operations s.stores) (kept_served v _ request s there waits k), length-set _ _ _))
+after_call (REPLY v passed) s k =
+    by_reply s (After s) (λ _ _. (k, refl)) v passed (λ hold there.
+    (kept_phase v (holding hold) (promised hold) _ (ap (λ services. slice_get services v) (replied_services _ _ s) ∙ there) refl (kept_replied _ _ s k), length-set _ _ _ ∙ ap length (replied_services _ _ s)))
+after_call (HEAR v n) s k =
+    by_hear s (After s) (λ _ _. (k, refl)) v n (λ _ _. (kept_decisions _ s k, refl))
+    (λ hold d _ there _. kept_ended v hold d.commits (with_decisions (without_nth decision_for v n s.decisions) s) there (kept_decisions _ s k))
 
 pub kept_call : (call : Call) (s : Site) → Kept s → Kept (perform call s).next
 kept_call call s k = (after_call call s k).0
@@ -191,6 +122,11 @@ kept_call call s k = (after_call call s k).0
 pub kept_played : (calls : List Call) (s : Site) → Kept s → Kept (play calls s).site
 kept_played [] s k = k
 kept_played (call ∷ calls) s k = kept_played calls (perform call s).next (kept_call call s k)
+
+-- what every call of a site with the kept facts keeps holds after every list of calls
+pub played_too : (Q : Site → Type 0) → ((call : Call) (s : Site) → Kept s → Q s → Q (perform call s).next) → (calls : List Call) (s : Site) → Kept s → Q s → Q (play calls s).site
+played_too Q each [] s k q = q
+played_too Q each (call ∷ calls) s k q = played_too Q each calls (perform call s).next (kept_call call s k) (each call s k q)
 
 pub kept_laws : KeptLaws
 kept_laws = record { opened = kept_opened; called = kept_call; played = kept_played; bounds = bounds }

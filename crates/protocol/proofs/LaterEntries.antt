@@ -15,7 +15,7 @@ pub record Later (E F : Entries) : Type 0 where
   pub parts : (t : ℕ) → t < E.entered → F.parts t ≡ E.parts t
 
 -- what is said of old entries stays true, where it is not about their fates or these stay
-module _ (E F : Entries) (G : Later E F) where
+module _ {E F : Entries} (G : Later E F) where
   below : (t : ℕ) → t < E.entered → t < F.entered
   below t low = let more = G.more in omega arith
 

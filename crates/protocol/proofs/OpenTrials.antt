@@ -1,5 +1,6 @@
 -- A part's run leaves its trial open, and the capacity and the committed pairs as they were: so its commit keeps what the trial shows.
 use Rattle.std.proofs.Common.{◌≡◌, ℕ, suc, ◌+◌, ◌^◌, ltb, List, [], ◌∷◌, Some, None, Ok, Err, Option, Result, sym, refl, ap, ◌∙◌}
+use Rattle.std.proofs.lemmas.Bool.{cond_both}
 use Rattle.stores.specs.Pairs.{Pairs}
 use Rattle.stores.specs.declared.types.StoreRefusal.{StoreRefusal}
 use Rattle.stores.specs.Store.{StoreModel, Trial, look, visible, changed, put_in, drop_in, begin_step, commit_step, with_committed, roll_back_step}
@@ -8,7 +9,7 @@ use Rattle.scripts.specs.declared.types.Operation.TheVariants.{Look, Put, Need, 
 use Rattle.parts.specs.Runs.{PartRun, run_operation, sum_put, run_from, Done}
 use Rattle.protocol.specs.Law.{settled_by}
 use Rattle.protocol.specs.Ledger.Fate.{to_commit, to_abort}
-use Rattle.protocol.proofs.Guards.{by_result, by_test}
+use Rattle.protocol.proofs.Guards.{by_result}
 use Rattle.protocol.proofs.Invariant.{at_rest}
 use Rattle.protocol.proofs.SingleFile.{tried, kept}
 
@@ -28,7 +29,7 @@ module _ (capacity : ℕ) (pairs : Pairs) where
   sum_open : (key value : ℕ) (o : Option ℕ) (t : Trial) → StillOpen capacity pairs (sum_put key value o (in_hand capacity pairs t)).next
   sum_open key value None t = (t, refl)
   sum_open key value (Some found) t =
-      by_test (λ (d : Done). StillOpen capacity pairs d.next) (ltb (found + value) (2 ^ 32)) _ _
+      cond_both (ltb (found + value) (2 ^ 32)) _ _ (λ (d : Done). StillOpen capacity pairs d.next)
       (λ _. changed_open (put_in capacity key (found + value) t) t) (λ _. (t, refl))
 
   operation_open : (o : Operation) (t : Trial) → StillOpen capacity pairs (run_operation o (in_hand capacity pairs t)).next

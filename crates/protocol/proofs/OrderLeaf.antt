@@ -1,21 +1,22 @@
 -- ORDER keeps the invariant, under names that have grown by one.
-use Rattle.std.proofs.Common.{◌≡◌, ℕ, suc, ◌<◌, true, false, eqb, ◌⊎◌, List, [], ◌∷◌, map, length, is_some, Some, None, Ok, sym, refl, ap, ◌∙◌, subst, inl, inr, arith}
+use Rattle.std.proofs.Common.{◌≡◌, ℕ, suc, ◌<◌, true, ◌⊎◌, List, [], ◌∷◌, map, is_some, Some, None, sym, refl, ap, ◌∙◌, subst, inl, inr, arith}
 use Rattle.std.proofs.ByRecursion.{All-weaker}
-use Rattle.std.proofs.lemmas.Bool.{cases_eq}
+use Rattle.std.proofs.lemmas.Bool.{false≢true, cases_eq}
+use Rattle.std.proofs.lemmas.Option.{same_Some}
 use Rattle.std.specs.List.{slice_get, AllByRecursion}
 use Rattle.banks.specs.Bank.{BankModel}
 use Rattle.banks.proofs.OneStore.{nth_set_same}
-use Rattle.scripts.specs.Reading.{Part, read_script}
+use Rattle.scripts.specs.Reading.{Part}
 use Rattle.protocol.specs.declared.types.PartState.TheVariants.{Replied}
-use Rattle.protocol.specs.Calls.{Outcome, with_client, unsent}
+use Rattle.protocol.specs.Calls.{with_client, unsent}
 use Rattle.protocol.specs.Ledger.{Ledger, put_at, enter}
-use Rattle.protocol.specs.Ledger.Fate.{undecided, to_commit}
+use Rattle.protocol.specs.Ledger.Fate.{undecided}
 use Rattle.protocol.specs.Runs.Call.{ORDER}
 use Rattle.protocol.specs.Site.{Site, Client, OpenPart, Transaction}
-use Rattle.protocol.proofs.Guards.{by_option, by_result, by_test, by_client}
-use Rattle.protocol.proofs.Invariant.{named, AlikeParts, fate_of, entries, Open, PromisedYes, Inv, KeptAfter, Keeps}
+use Rattle.protocol.proofs.Guards.{by_order}
+use Rattle.protocol.proofs.Invariant.{Acted, Committed, named, AlikeParts, entries, Open, Noted, Inv, KeptAfter, Keeps}
 use Rattle.protocol.proofs.LaterEntries.{Later, fits_later, open_later, asks_later, decides_later}
-use Rattle.protocol.proofs.Lines.{SameEntry, same_file, same_right, same_settled, settled_alike}
+use Rattle.protocol.proofs.Lines.{SameEntry, same_right, same_settled, settled_still}
 use Rattle.protocol.proofs.Tables.{by_place, put_here, put_there, by_map}
 
 -- a new transaction's parts are those of its script, and none is answered
@@ -38,9 +39,6 @@ with_entry c parts l = record {
   noted = l.noted;
   acts = l.acts;
 }
-
-enter_is : (services c : ℕ) (script : List ℕ) (parts : List Part) (l : Ledger) → read_script services script ≡ Ok parts → enter services c script l ≡ with_entry c parts l
-enter_is services c script parts l e = rw (e, enter) refl
 
 -- an idle client's new transaction
 module _ (start : BankModel) (s : Site) (l : Ledger) (N : ℕ → Transaction) (I : Inv start s l N) (c : ℕ) (client : Client) (parts : List Part) (there : slice_get s.clients c ≡ Some client) (idle : client.parts ≡ None) where
@@ -69,9 +67,7 @@ module _ (start : BankModel) (s : Site) (l : Ledger) (N : ℕ → Transaction) (
   -- an old entry of an idle client is decided
   not_idle : (t : ℕ) → t < l.entered → (N t).client ≡ c → l.fate t ≡ undecided → ⊥
   not_idle t low mine pending =
-      let was = I.pending_open t client low (ap (slice_get s.clients) mine ∙ there) pending in
-      let is : false ≡ true = ap is_some (sym idle) ∙ was.1 in
-      grind arith
+      false≢true (ap is_some (sym idle) ∙ (I.pending_open t client low (ap (slice_get s.clients) mine ∙ there) pending).1)
 
   -- and so has a lower number
   lower : (t : ℕ) → t < l.entered → (N t).client ≡ c → (N t).number < client.number
@@ -79,17 +75,7 @@ module _ (start : BankModel) (s : Site) (l : Ledger) (N : ℕ → Transaction) (
 
   unnamed : (t : ℕ) → t < l.entered → N t ≡ new_name → ⊥
   unnamed t low e =
-      let less = lower t low (ap (λ x. x.client) e) in
-      let same : (N t).number ≡ client.number = ap (λ x. x.number) e in
-      omega arith
-
-  -- an entry is an old one or the new one
-  abbrev old_or_new : (P : ℕ → Type 0) → ((t : ℕ) → t < l.entered → P t) → P l.entered → (t : ℕ) → t < suc l.entered → P t
-  old_or_new P old new t low = go (cases_eq t l.entered)
-    where
-      go : (t ≡ l.entered) ⊎ (t ≡ l.entered → ⊥) → P t
-      go (inl here) = subst P (sym here) new
-      go (inr apart) = old t (omega arith)
+      omega (arith, lower t low (ap (λ x. x.client) e), ap (λ x. x.number) e)
 
   abbrev PendingOpen : Transaction → ℕ → Type 0
   PendingOpen n t = (k : Client) → slice_get (with_client c new_client s).clients n.client ≡ Some k → l.fate t ≡ undecided → (n.number ≡ k.number) × (is_some k.parts ≡ true) × (new_ledger.newest n.client ≡ Some t)
@@ -104,7 +90,7 @@ module _ (start : BankModel) (s : Site) (l : Ledger) (N : ℕ → Transaction) (
       (N t).client k e refl
 
   is_new : (k : Client) → slice_get (with_client c new_client s).clients c ≡ Some k → new_client ≡ k
-  is_new k e = let now = nth_set_same s.clients c client new_client there in cc
+  is_new k e = same_Some new_client k (sym (nth_set_same s.clients c client new_client there) ∙ e)
 
   pending_new : PendingOpen new_name l.entered
   pending_new k e pending = subst (λ x. (client.number ≡ x.number) × (is_some x.parts ≡ true) × (new_ledger.newest c ≡ Some l.entered)) (is_new k e) (refl, refl, put_here l.newest c (Some l.entered))
@@ -122,12 +108,13 @@ module _ (start : BankModel) (s : Site) (l : Ledger) (N : ℕ → Transaction) (
   still_pending : l.fate l.entered ≡ undecided
   still_pending = I.fresh l.entered (omega arith)
 
-  -- a fact about each entry under its name
+  -- what holds of each old entry under its name and of the new one holds of every entry
   under_names : (P : Transaction → ℕ → Type 0) → ((t : ℕ) → t < l.entered → P (N t) t) → P new_name l.entered → (t : ℕ) → t < suc l.entered → P (new_names t) t
-  under_names P old new =
-      old_or_new (λ t. P (new_names t) t)
-      (λ t low. subst (λ n. P n t) (sym (old_name t low)) (old t low))
-      (subst (λ n. P n l.entered) (sym (put_here N l.entered new_name)) new)
+  under_names P old new t low = go (cases_eq t l.entered)
+    where
+      go : (t ≡ l.entered) ⊎ (t ≡ l.entered → ⊥) → P (new_names t) t
+      go (inl here) = subst (λ x. P (new_names x) x) (sym here) (subst (λ n. P n l.entered) (sym (put_here N l.entered new_name)) new)
+      go (inr apart) = let below : t < l.entered = omega arith in subst (λ n. P n t) (sym (old_name t below)) (old t below)
 
   one_name : (t u : ℕ) → t < suc l.entered → u < suc l.entered → new_names t ≡ new_names u → t ≡ u
   one_name t u low_t low_u =
@@ -144,13 +131,12 @@ module _ (start : BankModel) (s : Site) (l : Ledger) (N : ℕ → Transaction) (
     name = put_here N l.entered new_name;
     pending = still_pending;
     parts_alike =
-        let same : map unsent parts ≡ ps = cc in
-        subst (λ x. AlikeParts x (new_ledger.parts l.entered)) same (subst (AlikeParts (map unsent parts)) (sym (put_here l.parts l.entered parts)) (alike_unsent parts));
+        subst (λ x. AlikeParts x (new_ledger.parts l.entered)) (same_Some _ ps e) (subst (AlikeParts (map unsent parts)) (sym (put_here l.parts l.entered parts)) (alike_unsent parts));
   }
 
   same_line : AllByRecursion (SameEntry l new_ledger) l.line
   same_line =
-      All-weaker (λ t. (t < l.entered) × (l.fate t ≡ to_commit)) (SameEntry l new_ledger) (λ t h. record { parts = later.parts t h.0; noted = refl }) l.line I.in_line
+      All-weaker (Committed l) (SameEntry l new_ledger) (λ t h. record { parts = later.parts t h.0; noted = refl }) l.line I.in_line
 
   order_inv : Inv start (with_client c new_client s) new_ledger new_names
   order_inv = record {
@@ -160,32 +146,24 @@ module _ (start : BankModel) (s : Site) (l : Ledger) (N : ℕ → Transaction) (
     fresh = λ t high. I.fresh t (omega arith);
     opens = λ d k ps e f.
         by_place (λ b x. (qs : List OpenPart) → x.parts ≡ Some qs → Open (entries new_names new_ledger) (new_ledger.newest b) b x.number qs) s.clients c client new_client there open_new
-        (λ b x apart e' qs f'. subst (λ n. Open (entries new_names new_ledger) n b x.number qs) (sym (put_there l.newest c b (Some l.entered) apart)) (open_later (entries N l) (entries new_names new_ledger) later (l.newest b) b x.number qs (I.opens b x qs e' f') refl))
+        (λ b x apart e' qs f'. subst (λ n. Open (entries new_names new_ledger) n b x.number qs) (sym (put_there l.newest c b (Some l.entered) apart)) (open_later later (l.newest b) b x.number qs (I.opens b x qs e' f') refl))
         d k e ps f;
     answered = λ d t p k ps part e f g h i.
-        by_place (λ b x. (qs : List OpenPart) → x.parts ≡ Some qs → slice_get qs p ≡ Some part → new_ledger.newest b ≡ Some t → (looks : List ℕ) × (l.noted t p ≡ Some looks) × PromisedYes s.services part.service (named b x.number) looks) s.clients c client new_client there
-        (λ qs f' g' _. let same : qs ≡ map unsent parts = cc in absurd (unsent_silent parts p part (ap (λ x. slice_get x p) (sym same) ∙ g') h))
+        by_place (λ b x. (qs : List OpenPart) → x.parts ≡ Some qs → slice_get qs p ≡ Some part → new_ledger.newest b ≡ Some t → Noted l.noted s.services t p (named b x.number) part) s.clients c client new_client there
+        (λ qs f' g' _. absurd (unsent_silent parts p part (ap (λ x. slice_get x p) (same_Some (map unsent parts) qs f') ∙ g') h))
         (λ b x apart e' qs f' g' i'. I.answered b t p x qs part e' f' g' h (sym (put_there l.newest c b (Some l.entered) apart) ∙ i'))
         d k e ps f g i;
-    fits = λ v x m e f. fits_later (entries N l) (entries new_names new_ledger) later v x (l.service v) m (λ g _. g.unrun) (I.fits v x m e f);
-    asks = λ j r e. asks_later (entries N l) (entries new_names new_ledger) later (l.service r.service) r (I.asks j r e);
+    fits = λ v x m e f. fits_later later v x (l.service v) m (λ g _. g.unrun) (I.fits v x m e f);
+    asks = λ j r e. asks_later later (l.service r.service) r (I.asks j r e);
     says = I.says;
-    tells = λ j d e. decides_later (entries N l) (entries new_names new_ledger) later d (I.tells j d e) refl;
-    done = All-weaker (λ a. (a.entry < l.entered) × (l.fate a.entry ≡ fate_of a.commits)) (λ a. (a.entry < suc l.entered) × (l.fate a.entry ≡ fate_of a.commits)) (λ a h. let low = h.0 in (omega arith, h.1)) l.acts I.done;
-    in_line = All-weaker (λ t. (t < l.entered) × (l.fate t ≡ to_commit)) (λ t. (t < suc l.entered) × (l.fate t ≡ to_commit)) (λ t h. let low = h.0 in (omega arith, h.1)) l.line I.in_line;
+    tells = λ j d e. decides_later later d (I.tells j d e) refl;
+    done = All-weaker (Acted l) (Acted new_ledger) (λ a h. (omega arith, h.1)) l.acts I.done;
+    in_line = All-weaker (Committed l) (Committed new_ledger) (λ t h. (omega arith, h.1)) l.line I.in_line;
     right = same_right l new_ledger start l.line same_line I.right;
-    settled = λ v. ap (λ stores. slice_get stores v) (same_file l new_ledger start l.line same_line) ∙ I.settled v ∙ sym (settled_alike l new_ledger (l.service v) (l.service v) (slice_get s.stores v) (same_settled l new_ledger (λ _. refl) (l.service v)));
+    settled = λ v. settled_still l new_ledger start l.line same_line v (l.service v) (slice_get s.stores v) (same_settled l new_ledger (λ _. refl) (l.service v)) (I.settled v);
   }
 
 pub order_keeps : (c : ℕ) (script : List ℕ) → Keeps (ORDER c script)
 order_keeps c script start s l N k I =
-    by_client s So (λ _ _. (N, I)) c _ (λ client there.
-    by_option So client.parts _ _ (λ idle.
-    by_test So (eqb client.number 4294967295) _ _ (λ _. (N, I)) (λ _.
-    by_result So (read_script (length s.services) script) _ _ (λ parts accepted.
-    (put_at N l.entered (named c client.number), subst (λ x. Inv start (with_client c (record { number = client.number; parts = Some (map unsent parts) }) s) x (put_at N l.entered (named c client.number))) (sym (enter_is (length s.services) c script parts l accepted)) (order_inv start s l N I c client parts there idle)))
-    (λ _ _. (N, I))))
-    (λ _ _. (N, I)))
-  where
-    So : Outcome → Type 0
-    So = KeptAfter start s l (ORDER c script)
+    by_order s (KeptAfter start s l (ORDER c script)) (λ _ _. (N, I)) c script (λ client parts there idle accepted.
+    (put_at N l.entered (named c client.number), rw (accepted, enter) (order_inv start s l N I c client parts there idle)))

@@ -2,6 +2,7 @@
 use Rattle.std.proofs.Common.{◌≡◌, ℕ, zero, suc, ◌+◌, true, ◌≢◌, ◌⊎◌, List, [], ◌∷◌, length, set, Some, Option, sym, refl, ap, ◌∙◌, inl, inr, arith}
 use Rattle.std.proofs.lemmas.Bool.{cases_eq}
 use Rattle.std.proofs.lemmas.Bool.Decides.{nat_tests}
+use Rattle.std.proofs.lemmas.Option.{none-some, same_Some}
 use Rattle.std.specs.List.{slice_get}
 use Rattle.banks.specs.Bank.{BankModel}
 use Rattle.scripts.specs.declared.types.Operation.{Operation}
@@ -14,14 +15,14 @@ use Rattle.protocol.specs.Kept.{OpenParts}
 use Rattle.protocol.specs.Site.{OpenPart}
 use Rattle.protocol.proofs.Invariant.{AlikeParts, HasPart}
 use Rattle.protocol.proofs.SingleFile.{Elsewhere, Apart, EachRight}
-use Rattle.protocol.proofs.Tables.{none_is_some, beside, all_at}
+use Rattle.protocol.proofs.Tables.{beside, all_at}
 use Rattle.protocol.proofs.Waiting.{in_state}
 
 -- a script's parts do not tell states
 pub alike_set : (parts : List OpenPart) (p : ℕ) (part : OpenPart) (state : PartState) (ps : List Part) → slice_get parts p ≡ Some part → AlikeParts parts ps → AlikeParts (set parts p (in_state state part)) ps
 alike_set [] p part state ps e a = a
 alike_set (o ∷ os) p part state [] e a = absurd a
-alike_set (o ∷ os) zero part state (q ∷ ps) e a = let same : o ≡ part = cc in (ap (λ x. x.service) (sym same) ∙ a.0, ap (λ x. x.operations) (sym same) ∙ a.1, a.2)
+alike_set (o ∷ os) zero part state (q ∷ ps) e a = let same = same_Some o part e in (ap (λ x. x.service) (sym same) ∙ a.0, ap (λ x. x.operations) (sym same) ∙ a.1, a.2)
 alike_set (o ∷ os) (suc p) part state (q ∷ ps) e a = (a.0, a.1, alike_set os p part state ps e a.2)
 
 -- an open part and the entry's part at its place
@@ -32,11 +33,11 @@ alike_long (o ∷ os) [] a = absurd a
 alike_long (o ∷ os) (q ∷ ps) a = ap suc (alike_long os ps a.2)
 
 alike_at : (os : List OpenPart) (ps : List Part) (j : ℕ) (o : OpenPart) (p : Part) → AlikeParts os ps → slice_get os j ≡ Some o → slice_get ps j ≡ Some p → (p.service ≡ o.service) × (p.operations ≡ o.operations)
-alike_at [] ps j o p a e f = none_is_some o e
+alike_at [] ps j o p a e f = absurd (none-some o e)
 alike_at (x ∷ os) [] j o p a e f = absurd a
 alike_at (x ∷ os) (y ∷ ps) zero o p a e f =
-    let mine : x ≡ o = cc in
-    let its : y ≡ p = cc in
+    let mine = same_Some x o e in
+    let its = same_Some y p f in
     (ap (λ z. z.service) (sym its) ∙ sym a.0 ∙ ap (λ z. z.service) mine, ap (λ z. z.operations) (sym its) ∙ sym a.1 ∙ ap (λ z. z.operations) mine)
 alike_at (x ∷ os) (y ∷ ps) (suc j) o p a e f = alike_at os ps j o p a.2 e f
 
@@ -57,7 +58,7 @@ replied_at (x ∷ os) j o all e = go x.state refl j e (λ i. replied_at os i o)
     go : (state : PartState) → x.state ≡ state → (i : ℕ) → slice_get (x ∷ os) i ≡ Some o → ((k : ℕ) → all_replied os ≡ true → slice_get os k ≡ Some o → o.state ≡ Replied) → o.state ≡ Replied
     go Unsent f i e ih = grind (arith, nat_tests)
     go Waiting f i e ih = grind (arith, nat_tests)
-    go Replied f zero e ih = let same : x ≡ o = cc in ap (λ y. y.state) (sym same) ∙ f
+    go Replied f zero e ih = ap (λ y. y.state) (sym (same_Some x o e)) ∙ f
     go Replied f (suc k) e ih = ih k (grind (arith, nat_tests)) e
     go TimedOut f i e ih = grind (arith, nat_tests)
 

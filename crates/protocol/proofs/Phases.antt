@@ -1,7 +1,8 @@
 -- A service that changes its phase keeps the invariant, if it answers no open transaction.
-use Rattle.std.proofs.Common.{◌≡◌, ℕ, ◌<◌, true, ◌≢◌, ◌⊎◌, List, set, Some, None, Option, sym, refl, ap, ◌∙◌, subst, inl, inr, arith}
+use Rattle.std.proofs.Common.{◌≡◌, ℕ, true, ◌≢◌, ◌⊎◌, List, set, Some, None, Option, sym, refl, ap, ◌∙◌, subst, inl, inr, arith}
 use Rattle.std.proofs.lemmas.Bool.{cases_eq}
 use Rattle.std.proofs.lemmas.Bool.Decides.{nat_tests}
+use Rattle.std.proofs.lemmas.Option.{same_Some}
 use Rattle.std.specs.Option.{option_map}
 use Rattle.std.specs.List.{slice_get, AllByRecursion}
 use Rattle.stores.specs.Store.{StoreModel}
@@ -11,7 +12,7 @@ use Rattle.protocol.specs.Kept.{Kept}
 use Rattle.protocol.specs.Ledger.{Ledger, Engagement, Act, put_at}
 use Rattle.protocol.specs.Site.{Site, Client, OpenPart, Transaction, Hold, Service, Request, Decision}
 use Rattle.protocol.specs.Site.Service.{given, promised}
-use Rattle.protocol.proofs.Invariant.{named, fate_of, entries, Fits, PromisedYes, Decides, settled_store, Inv, Asks}
+use Rattle.protocol.proofs.Invariant.{Acted, named, entries, Fits, PromisedYes, Decides, settled_store, Inv, Asks}
 use Rattle.protocol.proofs.Lines.{SameEntry, same_entries, same_file, same_right}
 use Rattle.protocol.proofs.Pieces.{promise_stays}
 use Rattle.protocol.proofs.Room.{bounds}
@@ -48,7 +49,7 @@ pub record Harmless (s : Site) (l : Ledger) (N : ℕ → Transaction) (v : ℕ) 
   pub settles : settled_store l (engagements v) now ≡ settled_store l (l.service v) was
   pub asked : (j : ℕ) (r : Request) → slice_get requests j ≡ Some r → Asks (entries N l) (engagements r.service) r
   pub told : (j : ℕ) (d : Decision) → slice_get decisions j ≡ Some d → Decides (entries N l) d
-  pub done : AllByRecursion (λ a. (a.entry < l.entered) × (l.fate a.entry ≡ fate_of a.commits)) acts
+  pub done : AllByRecursion (Acted l) acts
 
 pub moved : (start : BankModel) (s : Site) (l : Ledger) (N : ℕ → Transaction) (v : ℕ) (new : Service) (requests : List Request) (decisions : List Decision) (stores : BankModel) (engagements : ℕ → Engagement) (acts : List Act) → Kept s → Inv start s l N → Harmless s l N v new requests decisions stores engagements acts → Inv start (moved_site s v new requests decisions stores) (moved_ledger l engagements acts) N
 moved start s l N v new requests decisions stores engagements acts k I h = record {
@@ -81,8 +82,7 @@ moved start s l N v new requests decisions stores engagements acts k I h = recor
 
     fits_here : (n : StoreModel) → slice_get stores v ≡ Some n → Fits (entries N l) v new (engagements v) n
     fits_here n store =
-        let both : Some h.now ≡ Some n = sym h.store_now ∙ store in
-        let is_now : h.now ≡ n = cc in
+        let is_now = same_Some h.now n (sym h.store_now ∙ store) in
         subst (Fits (entries N l) v new (engagements v)) is_now h.fits_now
 
     fits_there : (w : ℕ) (y : Service) → w ≢ v → slice_get s.services w ≡ Some y → (n : StoreModel) → slice_get stores w ≡ Some n → Fits (entries N l) w y (engagements w) n
@@ -97,10 +97,7 @@ pub asks_stay : (start : BankModel) (s : Site) (l : Ledger) (N : ℕ → Transac
 asks_stay start s l N v old e k I there not_given j r waits = subst (λ x. Asks (entries N l) x r) (sym (put_there l.service v r.service e apart)) (I.asks j r waits)
   where
     apart : r.service ≢ v
-    apart same =
-        let both : Some old ≡ Some given = sym there ∙ ap (slice_get s.services) (sym same) ∙ (bounds s k).asked j r waits in
-        let same_phase : old ≡ given = cc in
-        not_given same_phase
+    apart same = not_given (same_Some old given (sym there ∙ ap (slice_get s.services) (sym same) ∙ (bounds s k).asked j r waits))
 
 -- a service that has promised nothing, and whose store and decisions stay
 pub phase_keeps : (start : BankModel) (s : Site) (l : Ledger) (N : ℕ → Transaction) (v : ℕ) (old new : Service) (requests : List Request) (engagements : ℕ → Engagement) → Kept s → Inv start s l N → slice_get s.services v ≡ Some old → ((hold : Hold) → old ≡ promised hold → ⊥) → ((u : ℕ) → u ≢ v → engagements u ≡ l.service u) → ((m : StoreModel) → Fits (entries N l) v old (l.service v) m → Fits (entries N l) v new (engagements v) m × (settled_store l (engagements v) m ≡ settled_store l (l.service v) m)) → ((j : ℕ) (r : Request) → slice_get requests j ≡ Some r → Asks (entries N l) (engagements r.service) r) → Inv start (moved_site s v new requests s.decisions s.stores) (moved_ledger l engagements l.acts) N

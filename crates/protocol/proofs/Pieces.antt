@@ -1,5 +1,6 @@
 -- Small changes of a site that keep the invariant: a message more or less, a part in another state. And a promise that stands.
 use Rattle.std.proofs.Common.{◌≡◌, ℕ, ◌<◌, true, ◌≢◌, List, set, is_some, Some, Option, sym, refl, ap, ◌∙◌, subst}
+use Rattle.std.proofs.lemmas.Option.{same_Some}
 use Rattle.std.specs.List.{slice_get, AllByRecursion}
 use Rattle.std.proofs.ByRecursion.{All-weaker}
 use Rattle.banks.specs.Bank.{BankModel}
@@ -11,9 +12,9 @@ use Rattle.protocol.specs.Calls.{with_replies, with_state, without_reply, with_d
 use Rattle.protocol.specs.Ledger.{Ledger}
 use Rattle.protocol.specs.Site.{Site, Client, OpenPart, Transaction, Hold, Service, Reply, reply_for, Slot, Decision}
 use Rattle.protocol.specs.Site.Service.{promised}
-use Rattle.protocol.specs.Ledger.Fate.{undecided, to_commit}
-use Rattle.protocol.proofs.Invariant.{named, entries, Open, PromisedYes, Inv, fate_decided, Decides}
-use Rattle.protocol.proofs.Lines.{SameEntry, same_file, same_right, same_settled, settled_alike}
+use Rattle.protocol.specs.Ledger.Fate.{undecided}
+use Rattle.protocol.proofs.Invariant.{Committed, named, entries, Open, PromisedYes, Noted, Inv, fate_decided, Decides}
+use Rattle.protocol.proofs.Lines.{SameEntry, same_right, same_settled, settled_still}
 use Rattle.protocol.proofs.PartPlaces.{alike_set}
 use Rattle.protocol.proofs.Tables.{by_place}
 use Rattle.protocol.proofs.Taking.{left_found, by_last}
@@ -30,9 +31,7 @@ promise_stays services v w old new t looks there none p = record {
 }
   where
     apart : w ≢ v
-    apart same =
-        let is : Some old ≡ Some (promised p.hold) = sym there ∙ ap (slice_get services) (sym same) ∙ p.there in
-        none p.hold (cc) p.transaction
+    apart same = none p.hold (same_Some old _ (sym there ∙ ap (slice_get services) (sym same) ∙ p.there)) p.transaction
 
 -- other replies and decisions in the pools, each of them true
 pub pools_keep : (start : BankModel) (s : Site) (l : Ledger) (N : ℕ → Transaction) (replies : List Reply) (decisions : List Decision) → ((j : ℕ) (r : Reply) (looks : List ℕ) → slice_get replies j ≡ Some r → r.looks ≡ Some looks → PromisedYes s.services r.service (named r.client r.number) looks) → ((j : ℕ) (d : Decision) → slice_get decisions j ≡ Some d → Decides (entries N l) d) → Inv start s l N → Inv start (with_decisions decisions (with_replies replies s)) l N
@@ -85,10 +84,7 @@ module _ (start : BankModel) (s : Site) (l : Ledger) (N : ℕ → Transaction) (
       apart (ap (λ x. x.client) (sym one ∙ mine))
 
   -- the state, with what is noted once it is so
-  module _ (state : PartState) (noted : ℕ → ℕ → Option (List ℕ)) (elsewhere : (u : ℕ) → u ≢ opened.entry → noted u ≡ l.noted u) (others : (q : ℕ) → q ≢ p → noted opened.entry q ≡ l.noted opened.entry q) (mine : state ≡ Replied → (looks : List ℕ) × (noted opened.entry p ≡ Some looks) × PromisedYes s.services part.service (named c client.number) looks) where
-    abbrev Noted : ℕ → ℕ → ℕ → Client → OpenPart → Type 0
-    Noted d u q k x = (looks : List ℕ) × (noted u q ≡ Some looks) × PromisedYes s.services x.service (named d k.number) looks
-
+  module _ (state : PartState) (noted : ℕ → ℕ → Option (List ℕ)) (elsewhere : (u : ℕ) → u ≢ opened.entry → noted u ≡ l.noted u) (others : (q : ℕ) → q ≢ p → noted opened.entry q ≡ l.noted opened.entry q) (mine : state ≡ Replied → Noted noted s.services opened.entry p (named c client.number) part) where
     abbrev changed : Client
     changed = record { number = client.number; parts = Some (set parts p (in_state state part)) }
 
@@ -107,31 +103,31 @@ module _ (start : BankModel) (s : Site) (l : Ledger) (N : ℕ → Transaction) (
     opens : (d : ℕ) (k : Client) → slice_get (set s.clients c changed) d ≡ Some k → (ps : List OpenPart) → k.parts ≡ Some ps → Open (entries N l) (l.newest d) d k.number ps
     opens =
         by_place (λ d k. (ps : List OpenPart) → k.parts ≡ Some ps → Open (entries N l) (l.newest d) d k.number ps) s.clients c client changed there
-        (λ ps f. let same : set parts p (in_state state part) ≡ ps = cc in subst (Open (entries N l) (l.newest c) c client.number) same (record { entry = opened.entry; is_newest = opened.is_newest; entered = opened.entered; name = opened.name; pending = opened.pending; parts_alike = alike_set parts p part state (l.parts opened.entry) has opened.parts_alike }))
+        (λ ps f. subst (Open (entries N l) (l.newest c) c client.number) (same_Some _ ps f) (record { entry = opened.entry; is_newest = opened.is_newest; entered = opened.entered; name = opened.name; pending = opened.pending; parts_alike = alike_set parts p part state (l.parts opened.entry) has opened.parts_alike }))
         (λ d k apart e ps f. I.opens d k ps e f)
 
     -- the parts of the client itself
-    own_answered : (q : ℕ) (x : OpenPart) → slice_get (set parts p (in_state state part)) q ≡ Some x → x.state ≡ Replied → Noted c opened.entry q client x
+    own_answered : (q : ℕ) (x : OpenPart) → slice_get (set parts p (in_state state part)) q ≡ Some x → x.state ≡ Replied → Noted noted s.services opened.entry q (named c client.number) x
     own_answered =
-        by_place (λ q x. x.state ≡ Replied → Noted c opened.entry q client x) parts p part (in_state state part) has mine
+        by_place (λ q x. x.state ≡ Replied → Noted noted s.services opened.entry q (named c client.number) x) parts p part (in_state state part) has mine
         (λ q x apart e replied. let (looks, was, promise) = I.answered c opened.entry q client parts x there is_open e replied opened.is_newest in (looks, others q apart ∙ was, promise))
 
-    answered : (d : ℕ) (k : Client) → slice_get (set s.clients c changed) d ≡ Some k → (u q : ℕ) (ps : List OpenPart) (x : OpenPart) → k.parts ≡ Some ps → slice_get ps q ≡ Some x → x.state ≡ Replied → l.newest d ≡ Some u → Noted d u q k x
+    answered : (d : ℕ) (k : Client) → slice_get (set s.clients c changed) d ≡ Some k → (u q : ℕ) (ps : List OpenPart) (x : OpenPart) → k.parts ≡ Some ps → slice_get ps q ≡ Some x → x.state ≡ Replied → l.newest d ≡ Some u → Noted noted s.services u q (named d k.number) x
     answered =
-        by_place (λ d k. (u q : ℕ) (ps : List OpenPart) (x : OpenPart) → k.parts ≡ Some ps → slice_get ps q ≡ Some x → x.state ≡ Replied → l.newest d ≡ Some u → Noted d u q k x) s.clients c client changed there
+        by_place (λ d k. (u q : ℕ) (ps : List OpenPart) (x : OpenPart) → k.parts ≡ Some ps → slice_get ps q ≡ Some x → x.state ≡ Replied → l.newest d ≡ Some u → Noted noted s.services u q (named d k.number) x) s.clients c client changed there
         (λ u q ps x f g replied newest.
-        let same : set parts p (in_state state part) ≡ ps = cc in
+        let same = same_Some (set parts p (in_state state part)) ps f in
         let is : opened.entry ≡ u = cc (opened.is_newest, newest) in
-        subst (λ i. Noted c i q client x) is (own_answered q x (ap (λ xs. slice_get xs q) same ∙ g) replied))
+        subst (λ i. Noted noted s.services i q (named c client.number) x) is (own_answered q x (ap (λ xs. slice_get xs q) same ∙ g) replied))
         (λ d k apart e u q ps x f g replied newest.
         let (looks, was, promise) = I.answered d u q k ps x e f g replied newest in
         (looks, ap (λ table. table q) (elsewhere u (other_entry d u k ps apart e f newest)) ∙ was, promise))
 
     -- an entry in the line is decided, so nothing new is noted of it
     same_line : AllByRecursion (SameEntry l (noting noted l)) l.line
-    same_line = All-weaker (λ u. (u < l.entered) × (l.fate u ≡ to_commit)) (SameEntry l (noting noted l)) same l.line I.in_line
+    same_line = All-weaker (Committed l) (SameEntry l (noting noted l)) same l.line I.in_line
       where
-        same : (u : ℕ) → (u < l.entered) × (l.fate u ≡ to_commit) → SameEntry l (noting noted l) u
+        same : (u : ℕ) → Committed l u → SameEntry l (noting noted l) u
         same u h = record { parts = refl; noted = elsewhere u (λ is. fate_decided true (sym h.1 ∙ ap l.fate is ∙ opened.pending)) }
 
     pub noted_keeps : Inv start (with_state c p state client parts part s) (noting noted l) N
@@ -149,7 +145,7 @@ module _ (start : BankModel) (s : Site) (l : Ledger) (N : ℕ → Transaction) (
       done = I.done;
       in_line = I.in_line;
       right = same_right l (noting noted l) start l.line same_line I.right;
-      settled = λ v. ap (λ ms. slice_get ms v) (same_file l (noting noted l) start l.line same_line) ∙ I.settled v ∙ sym (settled_alike l (noting noted l) (l.service v) (l.service v) (slice_get s.stores v) (same_settled l (noting noted l) (λ _. refl) (l.service v)));
+      settled = λ v. settled_still l (noting noted l) start l.line same_line v (l.service v) (slice_get s.stores v) (same_settled l (noting noted l) (λ _. refl) (l.service v)) (I.settled v);
     }
 
   -- a state that is no answer: the ledger stays

@@ -1,18 +1,18 @@
 -- REPLY keeps the invariant: a service that holds promises, and may tell its client.
-use Rattle.std.proofs.Common.{◌≡◌, ℕ, Bool, true, false, List, is_some, Some, refl, ap, ◌∙◌, arith}
+use Rattle.std.proofs.Common.{◌≡◌, ℕ, Bool, true, false, List, Some, refl, arith}
 use Rattle.std.specs.List.{slice_get}
 use Rattle.banks.specs.Bank.{BankModel}
 use Rattle.banks.proofs.OneStore.{nth_set_same}
-use Rattle.pools.specs.Pools.{nth_fitting}
 use Rattle.parts.specs.declared.votes.Vote.{Vote}
 use Rattle.parts.specs.declared.votes.Vote.TheVariants.{Yes, No}
-use Rattle.protocol.specs.Calls.{Outcome, with_service, still_waits, reply_looks, replied_with}
+use Rattle.protocol.specs.Calls.{with_service, reply_looks, replied_with}
 use Rattle.protocol.specs.Ledger.{Ledger}
+use Rattle.protocol.specs.Never.{held_slot}
 use Rattle.protocol.specs.Runs.Call.{REPLY}
-use Rattle.protocol.specs.Site.{Site, Transaction, Hold, Reply, Slot, reply_for}
+use Rattle.protocol.specs.Site.{Site, Transaction, Hold, Reply}
 use Rattle.protocol.specs.Site.Service.{holding, promised}
 use Rattle.protocol.specs.Kept.{Kept}
-use Rattle.protocol.proofs.Guards.{by_test, by_phase, by_service}
+use Rattle.protocol.proofs.Guards.{reply_to, by_replied, by_reply}
 use Rattle.protocol.proofs.Invariant.{PromisedYes, Inv, KeptAfter, Keeps}
 use Rattle.protocol.proofs.Phases.{phase_keeps}
 use Rattle.protocol.proofs.Pieces.{message_keeps}
@@ -29,21 +29,13 @@ module _ (start : BankModel) (s : Site) (l : Ledger) (N : ℕ → Transaction) (
   promise_keeps = phase_keeps start s l N v (holding hold) (promised hold) s.requests l.service k I there (λ h e. grind arith) (λ u _. refl) (λ m f. (f, refl)) I.asks
 
   -- and may tell its client
-  told_keeps : (passed : Bool) → Inv start (with_service v (promised hold) (replied_with (record { client = hold.transaction.client; service = v; number = hold.transaction.number }) (reply_looks hold.vote passed hold.looks) s)) l N
+  told_keeps : (passed : Bool) → Inv start (with_service v (promised hold) (replied_with (held_slot v hold) (reply_looks hold.vote passed hold.looks) s)) l N
   told_keeps passed =
-      by_test So (still_waits slot s) _ _ (λ _.
-      by_test So (is_some (nth_fitting reply_for slot 0 s.replies)) _ _ (λ _. promise_keeps) (λ _.
-      message_keeps start (with_service v (promised hold) s) l N message promise promise_keeps))
-      (λ _. promise_keeps)
+      by_replied (held_slot v hold) (reply_looks hold.vote passed hold.looks) s (λ x. Inv start (with_service v (promised hold) x) l N) promise_keeps
+      (λ _ _. message_keeps start (with_service v (promised hold) s) l N message promise promise_keeps)
     where
-      So : Site → Type 0
-      So x = Inv start (with_service v (promised hold) x) l N
-
-      slot : Slot
-      slot = record { client = hold.transaction.client; service = v; number = hold.transaction.number }
-
       message : Reply
-      message = record { client = hold.transaction.client; service = v; number = hold.transaction.number; looks = reply_looks hold.vote passed hold.looks }
+      message = reply_to (held_slot v hold) (reply_looks hold.vote passed hold.looks)
 
       promise : (looks : List ℕ) → reply_looks hold.vote passed hold.looks ≡ Some looks → PromisedYes (with_service v (promised hold) s).services v hold.transaction looks
       promise looks e =
@@ -52,10 +44,4 @@ module _ (start : BankModel) (s : Site) (l : Ledger) (N : ℕ → Transaction) (
 
 pub reply_keeps : (v : ℕ) (passed : Bool) → Keeps (REPLY v passed)
 reply_keeps v passed start s l N k I =
-    by_service s So (λ _ _. (N, I)) v _ (λ service there.
-    by_phase So service _ _ _ _ _ (λ _. (N, I)) (λ _. (N, I)) (λ _. (N, I))
-    (λ hold is_holding. (N, told_keeps start s l N v hold (there ∙ ap Some is_holding) k I passed))
-    (λ _ _. (N, I)))
-  where
-    So : Outcome → Type 0
-    So = KeptAfter start s l (REPLY v passed)
+    by_reply s (KeptAfter start s l (REPLY v passed)) (λ _ _. (N, I)) v passed (λ hold there. (N, told_keeps start s l N v hold there k I passed))

@@ -12,7 +12,7 @@ use Rattle.protocol.specs.Site.{OpenPart, Client, Service, Request, Reply, Site,
 use Rattle.protocol.specs.Site.Service.{down, ready, given, holding, promised}
 use Rattle.protocol.specs.Calls.{waits_in, client_waits, still_waits}
 use Rattle.protocol.specs.Kept.{due, reply_slot, Kept, Bounds}
-use Rattle.protocol.proofs.Counts.{met_by, no_more_than, counted}
+use Rattle.protocol.proofs.Counts.{count_append, count_one, met_by, no_more_than, counted}
 
 met_counting : (r : Request) (a n : ℕ) → a ≤ r.service → r.service < a + n → 1 ≤ met_by request_for r (range_with_len a n)
 met_counting r a zero low high = omega arith
@@ -62,10 +62,6 @@ abbrev slots_from : ℕ → List Client → List Slot
 slots_from c [] = []
 slots_from c (client ∷ clients) = slots_of c client.number client.parts ++ slots_from (suc c) clients
 
-met_append : (r : Reply) (ks ls : List Slot) → met_by reply_for r (ks ++ ls) ≡ met_by reply_for r ks + met_by reply_for r ls
-met_append r [] ls = grind arith
-met_append r (k ∷ ks) ls = let ih = met_append r ks ls in omega arith
-
 met_parts : (r : Reply) (parts : List OpenPart) → waits_in r.service parts ≡ true → 1 ≤ met_by reply_for r (slots_of r.client r.number (Some parts))
 met_parts r [] w = grind arith
 met_parts r (part ∷ parts) w = let ih = met_parts r parts in grind (arith, nat_tests)
@@ -81,9 +77,9 @@ met_clients : (r : Reply) (c i : ℕ) (clients : List Client) → r.client ≡ c
 met_clients r c i [] e w = grind arith
 met_clients r c zero (client ∷ clients) e w =
     let same : c ≡ r.client = omega arith in
-    rw same (omega (arith, met_client r client.number client.parts w, met_append r (slots_of r.client client.number client.parts) (slots_from (suc r.client) clients)))
+    rw same (omega (arith, met_client r client.number client.parts w, count_append (λ slot (m : Reply). reply_for m slot) r (slots_of r.client client.number client.parts) (slots_from (suc r.client) clients)))
 met_clients r c (suc i) (client ∷ clients) e w =
-    omega (arith, met_clients r (suc c) i clients (omega arith) w, met_append r (slots_of c client.number client.parts) (slots_from (suc c) clients))
+    omega (arith, met_clients r (suc c) i clients (omega arith) w, count_append (λ slot (m : Reply). reply_for m slot) r (slots_of c client.number client.parts) (slots_from (suc c) clients))
 
 slots_of_few : (c number : ℕ) (o : Option (List OpenPart)) → ((parts : List OpenPart) → o ≡ Some parts → length parts ≤ 4) → length (slots_of c number o) ≤ 4
 slots_of_few c number None few = omega arith
@@ -105,6 +101,14 @@ same_slot r slot fits =
     let number : r.number ≡ slot.number = grind (arith, nat_tests) in
     λ i. record { client = client i; service = service i; number = number i }
 
+-- with one more reply, for a part that waits and has none, each part would still have one at most
+pub one_more_reply : (s : Site) → Kept s → (r : Reply) → still_waits (reply_slot r) s ≡ true → length (fitting reply_for (reply_slot r) s.replies) ≡ 0 → (slot : Slot) → length (fitting reply_for slot s.replies) + cond (reply_for r slot) 1 0 ≤ cond (still_waits slot s) 1 0
+one_more_reply s k r waiting none slot = go (cases_Bool (reply_for r slot))
+  where
+    go : (reply_for r slot ≡ true) ⊎ (reply_for r slot ≡ false) → length (fitting reply_for slot s.replies) + cond (reply_for r slot) 1 0 ≤ cond (still_waits slot s) 1 0
+    go (inl fits) = subst (λ x. length (fitting reply_for x s.replies) + cond (reply_for r x) 1 0 ≤ cond (still_waits x s) 1 0) (same_slot r slot fits) (rw (met_slot r, waiting) (omega arith))
+    go (inr apart) = rw apart (omega (arith, k.replies slot))
+
 -- at most as many replies as there are parts, 4 for a client
 module _ (clients : List Client) (replies : List Reply) (each : (slot : Slot) → length (fitting reply_for slot replies) ≤ cond (client_waits slot.service slot.number (slice_get clients slot.client)) 1 0) where
   reply_waits : (i : ℕ) (r : Reply) → slice_get replies i ≡ Some r → client_waits r.service r.number (slice_get clients r.client) ≡ true
@@ -114,7 +118,7 @@ module _ (clients : List Client) (replies : List Reply) (each : (slot : Slot) �
       grind (arith, nat_tests)
 
   reply_one : (slot : Slot) → length (fitting reply_for slot replies) ≤ 1
-  reply_one slot = let most = each slot in grind (arith, nat_tests)
+  reply_one slot = grind (arith, nat_tests)
 
   replies_few : ((i : ℕ) (client : Client) (parts : List OpenPart) → slice_get clients i ≡ Some client → client.parts ≡ Some parts → length parts ≤ 4) → length replies ≤ 4 * length clients
   replies_few few =
@@ -133,22 +137,18 @@ module _ (s : Site) (k : Kept s) where
   request_room : (v : ℕ) → slice_get s.services v ≡ Some ready → length s.requests < 8
   request_room v there =
       let request : Request = record { client = 0; service = v; number = 0; operations = [] } in
-      let more = requests_few (set s.services v given) (request ∷ s.requests) (λ u. let d = due_set s.services v u ready given there in let was = k.requests u in grind (arith, nat_tests)) in
+      let more = requests_few (set s.services v given) (request ∷ s.requests) (λ u. let d = due_set s.services v u ready given there in grind (arith, nat_tests)) in
       omega (arith, more, length-set s.services v given, k.few)
 
   few_parts : (i : ℕ) (client : Client) (parts : List OpenPart) → slice_get s.clients i ≡ Some client → client.parts ≡ Some parts → length parts ≤ 4
   few_parts i client parts e f = (k.parts i client parts e f).few
 
-  -- with one more reply, each part would still have one at most
   reply_room : (slot : Slot) → still_waits slot s ≡ true → length (fitting reply_for slot s.replies) ≡ 0 → length s.replies < 32
-  reply_room slot waiting none = omega (arith, replies_few s.clients (r ∷ s.replies) (λ other. each other (cases_Bool (reply_for r other))) few_parts, k.clients)
+  reply_room slot waiting none =
+      omega (arith, replies_few s.clients (r ∷ s.replies) (λ other. omega (arith, count_one reply_for other r s.replies, one_more_reply s k r waiting none other)) few_parts, k.clients)
     where
       r : Reply
       r = record { client = slot.client; service = slot.service; number = slot.number; looks = None }
-
-      each : (other : Slot) → (reply_for r other ≡ true) ⊎ (reply_for r other ≡ false) → length (fitting reply_for other (r ∷ s.replies)) ≤ cond (still_waits other s) 1 0
-      each other (inl fits) = subst (λ x. length (fitting reply_for x (r ∷ s.replies)) ≤ cond (still_waits x s) 1 0) (same_slot r other fits) (rw (met_slot r, waiting) (omega arith))
-      each other (inr apart) = rw apart (k.replies other)
 
   pub bounds : Bounds s
   bounds = record {

@@ -1,40 +1,32 @@
 -- SEND keeps the invariant: the part waits, and its service is given the request or its client a timeout.
 use Rattle.std.proofs.Common.{◌≡◌, ℕ, ◌<◌, List, Some, None, sym, refl, ap, ◌∙◌, subst, arith}
+use Rattle.std.proofs.lemmas.Option.{none-some}
 use Rattle.std.specs.List.{slice_get}
 use Rattle.stores.specs.Store.{StoreModel}
 use Rattle.banks.specs.Bank.{BankModel}
 use Rattle.pools.specs.Pools.{put_last}
 use Rattle.scripts.specs.Reading.{Part}
 use Rattle.protocol.specs.declared.types.PartState.TheVariants.{Waiting}
-use Rattle.protocol.specs.Calls.{Outcome, with_service, with_requests, with_replies, with_state, slot_of, posted}
+use Rattle.protocol.specs.Calls.{with_service, with_requests, with_replies, with_state, slot_of, posted}
 use Rattle.protocol.specs.Kept.{Kept}
 use Rattle.protocol.specs.Ledger.{Ledger, with_engagement, engage, sent}
-use Rattle.protocol.specs.Ledger.Engagement.{off, on, engaged}
+use Rattle.protocol.specs.Ledger.Engagement.{on, engaged}
 use Rattle.protocol.specs.Ledger.Fate.{undecided, to_commit}
 use Rattle.protocol.specs.Runs.Call.{SEND}
 use Rattle.protocol.specs.Site.{Site, Client, OpenPart, Transaction, Service, Request, Reply}
 use Rattle.protocol.specs.Site.Service.{down, ready, given, holding, promised}
 use Rattle.protocol.proofs.Effects.{kept_sent}
-use Rattle.protocol.proofs.Guards.{by_option, by_state, by_phase, by_part}
+use Rattle.protocol.proofs.Guards.{reply_to, request_of, by_option, by_phase, by_send}
 use Rattle.protocol.proofs.Invariant.{named, HasPart, entries, Fits, Asks, Open, Inv, KeptAfter, Keeps}
 use Rattle.protocol.proofs.PartPlaces.{entry_part}
 use Rattle.protocol.proofs.Phases.{asks_stay, phase_keeps}
 use Rattle.protocol.proofs.Pieces.{message_keeps, state_keeps}
-use Rattle.protocol.proofs.Tables.{none_is_some, nth_below, beside, put_here, put_there}
+use Rattle.protocol.proofs.Tables.{nth_below, beside, put_here, put_there}
 use Rattle.protocol.proofs.Taking.{by_last}
 
 -- what the ledger makes of it
 sent_is : (l : Ledger) (c p t v : ℕ) (part : Part) → l.newest c ≡ Some t → slice_get (l.parts t) p ≡ Some part → part.service ≡ v → sent c p l ≡ engage t v l
 sent_is l c p t v part newest has serves = rw (newest, sent) (rw has (ap (λ x. engage t x l) serves))
-
-engage_on : (l : Ledger) (t v : ℕ) → l.service v ≡ on → engage t v l ≡ with_engagement v (engaged t) l
-engage_on l t v e = rw (e, engage) refl
-
-engage_off : (l : Ledger) (t v : ℕ) → l.service v ≡ off → engage t v l ≡ l
-engage_off l t v e = rw (e, engage) refl
-
-engage_engaged : (l : Ledger) (t v u : ℕ) → l.service v ≡ engaged u → engage t v l ≡ l
-engage_engaged l t v u e = rw (e, engage) refl
 
 -- a request of an entry for a Ready service
 module _ (start : BankModel) (s : Site) (l : Ledger) (N : ℕ → Transaction) (r : Request) (t : ℕ) (there : slice_get s.services r.service ≡ Some ready) (low : t < l.entered) (name : N t ≡ named r.client r.number) (pending : l.fate t ≡ undecided) (has_part : HasPart (l.parts t) r.service r.operations) (is_on : l.service r.service ≡ on) (k : Kept s) (I : Inv start s l N) where
@@ -74,11 +66,11 @@ module _ (start : BankModel) (s : Site) (l : Ledger) (N : ℕ → Transaction) (
   posted_keeps =
       by_option So (slice_get s.services v) _ _ (λ e. absurd (missing e)) (λ service at.
       by_phase So service _ _ _ _ _
-      (λ is. timeout (engage_off l t v (fit service down at is).0))
+      (λ is. timeout (rw ((fit service down at is).0, engage) refl))
       (λ is. asked (at ∙ ap Some is) (fit service ready at is).0)
-      (λ is. timeout (engage_engaged l t v _ (fit service given at is).is_engaged))
-      (λ hold is. timeout (engage_engaged l t v _ (fit service (holding hold) at is).is_engaged))
-      (λ hold is. timeout (engage_engaged l t v _ (fit service (promised hold) at is).is_engaged)))
+      (λ is. timeout (rw ((fit service given at is).is_engaged, engage) refl))
+      (λ hold is. timeout (rw ((fit service (holding hold) at is).is_engaged, engage) refl))
+      (λ hold is. timeout (rw ((fit service (promised hold) at is).is_engaged, engage) refl)))
     where
       So : Site → Type 0
       So x = Inv start x (sent c p l) N
@@ -104,7 +96,7 @@ module _ (start : BankModel) (s : Site) (l : Ledger) (N : ℕ → Transaction) (
       missing : slice_get s.services v ≡ None → ⊥
       missing none =
           let (service, some) = nth_below s.services v ((k.parts c client parts there is_open).known p part has) in
-          none_is_some service (sym none ∙ some)
+          none-some service (sym none ∙ some)
 
       store : (service : Service) → slice_get s.services v ≡ Some service → (m : StoreModel) × (slice_get s.stores v ≡ Some m)
       store service at = beside s.services s.stores v service k.services at
@@ -113,10 +105,10 @@ module _ (start : BankModel) (s : Site) (l : Ledger) (N : ℕ → Transaction) (
       fit service phase at is = I.fits v phase (store service at).0 (at ∙ ap Some is) (store service at).1
 
       message : Reply
-      message = record { client = c; service = v; number = client.number; looks = None }
+      message = reply_to (slot_of c client part) None
 
       request : Request
-      request = record { client = c; service = v; number = client.number; operations = part.operations }
+      request = request_of (slot_of c client part) part.operations
 
       timeout : engage t v l ≡ l → So (with_replies (put_last 32 message s.replies) waiting)
       timeout stays =
@@ -125,13 +117,10 @@ module _ (start : BankModel) (s : Site) (l : Ledger) (N : ℕ → Transaction) (
 
       asked : slice_get s.services v ≡ Some ready → l.service v ≡ on → So (with_service v given (with_requests (put_last 8 request s.requests) waiting))
       asked at is_on =
-          subst (λ x. Inv start (with_service v given (with_requests (put_last 8 request s.requests) waiting)) x N) (sym (engages ∙ engage_on l t v is_on))
+          let engage_on : engage t v l ≡ with_engagement v (engaged t) l = rw (is_on, engage) refl in
+          subst (λ x. Inv start (with_service v given (with_requests (put_last 8 request s.requests) waiting)) x N) (sym (engages ∙ engage_on))
           (request_keeps start waiting l N request t at open_entry.entered open_entry.name open_entry.pending (record { place = p; part = mine.0; there = mine.1; service = mine.2; does = mine.3 }) is_on (kept_sent c p client parts part s there is_open has k) waiting_keeps)
 
 pub send_keeps : (c p : ℕ) → Keeps (SEND c p)
 send_keeps c p start s l N k I =
-    by_part s So (λ _ _. (N, I)) c p _ (λ client parts part there is_open has.
-    by_state So part.state _ _ _ _ (λ _. (N, posted_keeps start s l N k I c p client parts part there is_open has)) (λ _. (N, I)) (λ _. (N, I)) (λ _. (N, I)))
-  where
-    So : Outcome → Type 0
-    So = KeptAfter start s l (SEND c p)
+    by_send s (KeptAfter start s l (SEND c p)) (λ _ _. (N, I)) c p (λ client parts part there is_open has _. (N, posted_keeps start s l N k I c p client parts part there is_open has))

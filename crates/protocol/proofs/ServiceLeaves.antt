@@ -1,16 +1,16 @@
 -- READY and DOWN keep the invariant: the service has nothing in hand.
-use Rattle.std.proofs.Common.{◌≡◌, ℕ, Some, refl, ap, ◌∙◌, arith}
+use Rattle.std.proofs.Common.{◌≡◌, ℕ, Some, refl, arith}
 use Rattle.std.specs.List.{slice_get}
 use Rattle.stores.specs.Store.{StoreModel}
 use Rattle.banks.specs.Bank.{BankModel}
-use Rattle.protocol.specs.Calls.{Outcome, with_service}
+use Rattle.protocol.specs.Calls.{with_service}
 use Rattle.protocol.specs.Kept.{Kept}
 use Rattle.protocol.specs.Ledger.{Ledger, Engagement, put_at, with_engagement}
 use Rattle.protocol.specs.Ledger.Engagement.{off, on}
 use Rattle.protocol.specs.Runs.Call.{READY, DOWN}
 use Rattle.protocol.specs.Site.{Site, Transaction, Hold, Service}
 use Rattle.protocol.specs.Site.Service.{down, ready, given, promised}
-use Rattle.protocol.proofs.Guards.{by_service, by_phase}
+use Rattle.protocol.proofs.Guards.{by_ready, by_down}
 use Rattle.protocol.proofs.Invariant.{entries, Fits, settled_store, Inv, KeptAfter, Keeps}
 use Rattle.protocol.proofs.Phases.{asks_stay, phase_keeps}
 use Rattle.protocol.proofs.Tables.{put_here, put_there}
@@ -23,20 +23,8 @@ idle_moved start s l N v old new e k I there not_given not_promised fitting =
 
 pub ready_keeps : (v : ℕ) → Keeps (READY v)
 ready_keeps v start s l N k I =
-    by_service s P (λ _ _. (N, I)) v _ (λ service there.
-    by_phase P service _ _ _ _ _
-    (λ is_down. (N, idle_moved start s l N v down ready on k I (there ∙ ap Some is_down) (λ e. grind arith) (λ hold e. grind arith) (λ m f. ((refl, f.1), rw f.0 refl))))
-    (λ _. (N, I)) (λ _. (N, I)) (λ _ _. (N, I)) (λ _ _. (N, I)))
-  where
-    P : Outcome → Type 0
-    P = KeptAfter start s l (READY v)
+    by_ready s (KeptAfter start s l (READY v)) (λ _ _. (N, I)) v (λ there. (N, idle_moved start s l N v down ready on k I there (λ e. grind arith) (λ hold e. grind arith) (λ m f. ((refl, f.1), rw f.0 refl))))
 
 pub down_keeps : (v : ℕ) → Keeps (DOWN v)
 down_keeps v start s l N k I =
-    by_service s P (λ _ _. (N, I)) v _ (λ service there.
-    by_phase P service _ _ _ _ _ (λ _. (N, I))
-    (λ is_ready. (N, idle_moved start s l N v ready down off k I (there ∙ ap Some is_ready) (λ e. grind arith) (λ hold e. grind arith) (λ m f. ((refl, f.1), rw f.0 refl))))
-    (λ _. (N, I)) (λ _ _. (N, I)) (λ _ _. (N, I)))
-  where
-    P : Outcome → Type 0
-    P = KeptAfter start s l (DOWN v)
+    by_down s (KeptAfter start s l (DOWN v)) (λ _ _. (N, I)) v (λ there. (N, idle_moved start s l N v ready down off k I there (λ e. grind arith) (λ hold e. grind arith) (λ m f. ((refl, f.1), rw f.0 refl))))

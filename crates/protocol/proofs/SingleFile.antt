@@ -2,6 +2,7 @@
 use Rattle.std.proofs.Common.{◌≡◌, ℕ, zero, suc, ◌≢◌, List, [], ◌∷◌, set, Some, None, Ok, Err, Option, sym, refl, ap, ◌∙◌, arith, set-set}
 use Rattle.std.specs.List.{slice_get, AllByRecursion}
 use Rattle.std.proofs.ByRecursion.{All-weaker}
+use Rattle.std.proofs.lemmas.Option.{none-some, same_Some}
 use Rattle.stores.specs.Pairs.{Pairs}
 use Rattle.stores.specs.Store.{StoreModel, Trial, begin_step, commit_step}
 use Rattle.banks.specs.Bank.{BankModel, BankStep, at_store, from_store}
@@ -14,7 +15,7 @@ use Rattle.parts.specs.declared.votes.Cause.TheVariants.{ByBank}
 use Rattle.parts.specs.Runs.{BankRun, PartRun, run_part, run_part_at}
 use Rattle.protocol.specs.Calls.{run_in_trial}
 use Rattle.protocol.specs.Law.{commit_part, commit_parts, PartsRight}
-use Rattle.protocol.proofs.Tables.{at_place}
+use Rattle.protocol.proofs.Tables.{all_at, at_place}
 
 -- a part run in a trial begun on a store
 abbrev pub tried : List Operation → StoreModel → PartRun
@@ -68,12 +69,9 @@ pub record Closed (v : ℕ) (stores : BankModel) : Type 0 where
   pub there : slice_get stores v ≡ Some store
   pub closed : store.trial ≡ None
 
-commit_part_is : (p : Part) (stores : BankModel) (m : StoreModel) → slice_get stores p.service ≡ Some m → m.trial ≡ None → commit_part p stores ≡ set stores p.service (kept p.operations m)
-commit_part_is p stores m there closed = committed_is p.service p.operations stores m there closed
-
 commit_other : (p : Part) (stores : BankModel) → Closed p.service stores → (v : ℕ) → p.service ≢ v → slice_get (commit_part p stores) v ≡ slice_get stores v
 commit_other p stores c v apart =
-    ap (λ ms. slice_get ms v) (commit_part_is p stores c.store c.there c.closed) ∙ nth_set_other stores p.service v _ (λ e. apart (sym e))
+    ap (λ ms. slice_get ms v) (committed_is p.service p.operations stores c.store c.there c.closed) ∙ nth_set_other stores p.service v _ (λ e. apart (sym e))
 
 -- a part's vote and look numbers depend on its store alone
 same_run : (p : Part) (stores others : BankModel) → Closed p.service stores → slice_get others p.service ≡ slice_get stores p.service → ((run_in_trial p.service p.operations others).vote ≡ (run_in_trial p.service p.operations stores).vote) × ((run_in_trial p.service p.operations others).looks ≡ (run_in_trial p.service p.operations stores).looks)
@@ -93,9 +91,6 @@ EachRight noted i (p ∷ ps) stores =
 abbrev pub AllClosed : List Part → BankModel → Type 0
 AllClosed ps stores = AllByRecursion (λ p. Closed p.service stores) ps
 
-closed_along : (v : ℕ) (stores others : BankModel) → Closed v stores → slice_get others v ≡ slice_get stores v → Closed v others
-closed_along v stores others c e = record { store = c.store; there = e ∙ c.there; closed = c.closed }
-
 -- stores that agree on the services of the parts
 abbrev Alike : List Part → BankModel → BankModel → Type 0
 Alike ps stores others = AllByRecursion (λ p. slice_get others p.service ≡ slice_get stores p.service) ps
@@ -106,40 +101,38 @@ each_along noted i (p ∷ ps) stores others c a r =
     let same = same_run p stores others c.0 a.0 in
     (same.0 ∙ r.0, r.1 ∙ ap (λ looks. Some looks) (sym same.1), each_along noted (suc i) ps stores others c.1 a.1 r.2)
 
-all_closed_along : (ps : List Part) (stores others : BankModel) → AllClosed ps stores → Alike ps stores others → AllClosed ps others
-all_closed_along [] stores others c a = tt
-all_closed_along (p ∷ ps) stores others c a = (closed_along p.service stores others c.0 a.0, all_closed_along ps stores others c.1 a.1)
-
 alike_after : (p : Part) (ps : List Part) (stores : BankModel) → Closed p.service stores → Elsewhere p.service ps → Alike ps stores (commit_part p stores)
 alike_after p ps stores c e = All-weaker (λ q. q.service ≢ p.service) (λ q. slice_get (commit_part p stores) q.service ≡ slice_get stores q.service) (λ q other. commit_other p stores c q.service (λ same. other (sym same))) ps e
+
+-- the first part's commit leaves the other parts' stores closed
+closed_after : (p : Part) (ps : List Part) (stores : BankModel) → Apart (p ∷ ps) → AllClosed (p ∷ ps) stores → AllClosed ps (commit_part p stores)
+closed_after p ps stores apart c =
+    all_at (λ q. Closed q.service (commit_part p stores)) ps (λ j q e.
+    let was = at_place (λ x. Closed x.service stores) ps j q c.1 e in
+    record { store = was.store; there = at_place (λ x. slice_get (commit_part p stores) x.service ≡ slice_get stores x.service) ps j q (alike_after p ps stores c.0 apart.0) e ∙ was.there; closed = was.closed })
 
 -- parts on distinct services do not disturb one another: run one after the other they are as right as each alone
 pub parts_right : (noted : ℕ → Option (List ℕ)) (i : ℕ) (ps : List Part) (stores : BankModel) → Apart ps → AllClosed ps stores → EachRight noted i ps stores → PartsRight noted i ps stores
 parts_right noted i [] stores apart c r = tt
 parts_right noted i (p ∷ ps) stores apart c r =
-    let alike = alike_after p ps stores c.0 apart.0 in
-    let after = commit_part p stores in
-    (r.0, r.1, parts_right noted (suc i) ps after apart.1 (all_closed_along ps stores after c.1 alike) (each_along noted (suc i) ps stores after c.1 alike r.2))
+    (r.0, r.1, parts_right noted (suc i) ps (commit_part p stores) apart.1 (closed_after p ps stores apart c) (each_along noted (suc i) ps stores (commit_part p stores) c.1 (alike_after p ps stores c.0 apart.0) r.2))
 
 -- a service that no part is for keeps its store
 pub commit_parts_elsewhere : (v : ℕ) (ps : List Part) (stores : BankModel) → Apart ps → AllClosed ps stores → Elsewhere v ps → slice_get (commit_parts ps stores) v ≡ slice_get stores v
 commit_parts_elsewhere v [] stores apart c e = refl
 commit_parts_elsewhere v (p ∷ ps) stores apart c e =
-    let alike = alike_after p ps stores c.0 apart.0 in
-    commit_parts_elsewhere v ps (commit_part p stores) apart.1 (all_closed_along ps stores (commit_part p stores) c.1 alike) e.1
-    ∙ commit_other p stores c.0 v e.0
+    commit_parts_elsewhere v ps (commit_part p stores) apart.1 (closed_after p ps stores apart c) e.1 ∙ commit_other p stores c.0 v e.0
 
 -- the service of a part gets what the part leaves
 pub commit_parts_there : (j : ℕ) (p : Part) (ps : List Part) (stores : BankModel) (m : StoreModel) → slice_get ps j ≡ Some p → slice_get stores p.service ≡ Some m → m.trial ≡ None → Apart ps → AllClosed ps stores → slice_get (commit_parts ps stores) p.service ≡ Some (kept p.operations m)
-commit_parts_there j p [] stores m e there closed apart c = grind arith
+commit_parts_there j p [] stores m e there closed apart c = absurd (none-some p e)
 commit_parts_there zero p (q ∷ ps) stores m e there closed apart c =
-    let same : q ≡ p = cc in
-    let alike = alike_after q ps stores c.0 apart.0 in
+    let same = same_Some q p e in
     let elsewhere : Elsewhere p.service ps = rw same at apart.0 in
-    commit_parts_elsewhere p.service ps (commit_part q stores) apart.1 (all_closed_along ps stores (commit_part q stores) c.1 alike) elsewhere
+    commit_parts_elsewhere p.service ps (commit_part q stores) apart.1 (closed_after q ps stores apart c) elsewhere
     ∙ ap (λ x. slice_get (commit_part x stores) p.service) same
-    ∙ ap (λ ms. slice_get ms p.service) (commit_part_is p stores m there closed)
+    ∙ ap (λ ms. slice_get ms p.service) (committed_is p.service p.operations stores m there closed)
     ∙ nth_set_same stores p.service m (kept p.operations m) there
 commit_parts_there (suc j) p (q ∷ ps) stores m e there closed apart c =
     let alike = alike_after q ps stores c.0 apart.0 in
-    commit_parts_there j p ps (commit_part q stores) m e (at_place (λ x. slice_get (commit_part q stores) x.service ≡ slice_get stores x.service) ps j p alike e ∙ there) closed apart.1 (all_closed_along ps stores (commit_part q stores) c.1 alike)
+    commit_parts_there j p ps (commit_part q stores) m e (at_place (λ x. slice_get (commit_part q stores) x.service ≡ slice_get stores x.service) ps j p alike e ∙ there) closed apart.1 (closed_after q ps stores apart c)

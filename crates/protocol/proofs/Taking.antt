@@ -1,10 +1,10 @@
 -- Pools: what is left once a message is taken, and what was taken, stood there; what is put in stands there last.
 use Rattle.std.proofs.Common.{◌≡◌, ℕ, zero, suc, Bool, true, false, cond, List, [], ◌∷◌, ◌++◌, Some, refl, arith}
+use Rattle.std.proofs.lemmas.Bool.{cond_both}
 use Rattle.std.specs.List.{slice_get}
 use Rattle.pools.specs.Pools.{nth_fitting, without_nth, put_last, has_room}
 use Rattle.pools.proofs.Laws.{taking_splits}
-use Rattle.protocol.proofs.Guards.{by_test}
-use Rattle.protocol.proofs.Tables.{by_append, by_one}
+use Rattle.protocol.proofs.Tables.{by_append, at_place}
 
 -- the message stands in the pool
 pub record Found {M : Type 0} (m : M) (ms : List M) : Type 0 where
@@ -43,4 +43,4 @@ module _ {M P : Type 0} (meets : M → P → Bool) (party : P) where
 -- what holds of the message put last and of the others holds of every one
 pub by_last : {X : Type 0} (P : X → Type 0) (size : ℕ) (m : X) (xs : List X) → P m → ((j : ℕ) (x : X) → slice_get xs j ≡ Some x → P x) → (j : ℕ) (x : X) → slice_get (put_last size m xs) j ≡ Some x → P x
 by_last P size m xs here others =
-    by_test (λ ys. (j : ℕ) (x : _) → slice_get ys j ≡ Some x → P x) (has_room size xs) _ _ (λ _. by_append P xs (m ∷ []) others (by_one P m here)) (λ _. others)
+    cond_both (has_room size xs) _ _ (λ ys. (j : ℕ) (x : _) → slice_get ys j ≡ Some x → P x) (λ _. by_append P xs (m ∷ []) others (λ j x. at_place P (m ∷ []) j x (here, tt))) (λ _. others)

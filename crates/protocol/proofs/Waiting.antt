@@ -1,34 +1,27 @@
 -- Which parts of an open transaction wait, before and after one of them changes its state.
-use Rattle.std.proofs.Common.{◌≡◌, ℕ, zero, suc, Bool, true, false, ◌≢◌, ◌⊎◌, List, [], ◌∷◌, set, Some, None, sym, refl, ap, ◌∙◌, inl, inr, arith, length-set}
-use Rattle.std.proofs.lemmas.Bool.{cases_eq, ne_eqb, eq-eqb}
+use Rattle.std.proofs.Common.{◌≡◌, ℕ, zero, suc, Bool, true, false, ◌≢◌, List, [], ◌∷◌, set, Some, None, sym, refl, ap, ◌∙◌, arith, length-set}
+use Rattle.std.proofs.lemmas.Bool.{ne_eqb, eq-eqb}
 use Rattle.std.proofs.lemmas.Bool.Decides.{nat_tests}
+use Rattle.std.proofs.lemmas.Option.{none-some, same_Some}
 use Rattle.std.specs.List.{slice_get}
-use Rattle.banks.proofs.OneStore.{nth_set_same, nth_set_other}
+use Rattle.banks.proofs.OneStore.{nth_set_same}
 use Rattle.protocol.specs.declared.types.PartState.{PartState}
 use Rattle.protocol.specs.declared.types.PartState.TheVariants.{Unsent, Waiting, Replied, TimedOut}
 use Rattle.protocol.specs.Site.{OpenPart}
 use Rattle.protocol.specs.Calls.{waits_in, pending_from}
 use Rattle.protocol.specs.Kept.{OpenParts}
+use Rattle.protocol.proofs.Tables.{by_place}
 
 -- whether a part in this state waits
 abbrev pub waits : PartState → Bool
-waits Unsent = false
-waits Waiting = true
-waits Replied = false
-waits TimedOut = false
+waits state = elim state [ Waiting ↦ true | Unsent ↦ false | Replied ↦ false | TimedOut ↦ false ]
 
 abbrev pub in_state : PartState → OpenPart → OpenPart
 in_state state part = record { service = part.service; operations = part.operations; state = state }
 
 -- the first part for a service tells whether it waits
 waits_here : (v : ℕ) (part : OpenPart) (parts : List OpenPart) → part.service ≡ v → waits_in v (part ∷ parts) ≡ waits part.state
-waits_here v part parts here = rw (eq-eqb part.service v here) (go part.state)
-  where
-    go : (state : PartState) → (elim state [ Waiting ↦ true | Unsent ↦ false | Replied ↦ false | TimedOut ↦ false ]) ≡ waits state
-    go Unsent = refl
-    go Waiting = refl
-    go Replied = refl
-    go TimedOut = refl
+waits_here v part parts here = rw (eq-eqb part.service v here) refl
 
 waits_there : (v : ℕ) (part : OpenPart) (parts : List OpenPart) → part.service ≢ v → waits_in v (part ∷ parts) ≡ waits_in v parts
 waits_there v part parts other = rw (ne_eqb part.service v other) refl
@@ -43,8 +36,8 @@ open_tail services part parts o = record {
 
 -- in an open transaction the part for a service tells alone whether it waits
 pub waits_at : (services : ℕ) (parts : List OpenPart) (p : ℕ) (part : OpenPart) → OpenParts services parts → slice_get parts p ≡ Some part → waits_in part.service parts ≡ waits part.state
-waits_at services [] p part o e = grind arith
-waits_at services (first ∷ parts) zero part o e = let same : first ≡ part = cc in rw same (waits_here part.service part parts refl)
+waits_at services [] p part o e = absurd (none-some part e)
+waits_at services (first ∷ parts) zero part o e = rw (same_Some first part e) (waits_here part.service part parts refl)
 waits_at services (first ∷ parts) (suc p) part o e =
     waits_there part.service first parts (λ same. let a = o.apart 0 (suc p) first part refl e same in omega arith)
     ∙ waits_at services parts p part (open_tail services first parts o) e
@@ -52,14 +45,9 @@ waits_at services (first ∷ parts) (suc p) part o e =
 -- a part that changes its state
 module _ (services : ℕ) (parts : List OpenPart) (p : ℕ) (part : OpenPart) (state : PartState) (there : slice_get parts p ≡ Some part) where
   from_set : (q : ℕ) (other : OpenPart) → slice_get (set parts p (in_state state part)) q ≡ Some other → (before : OpenPart) × (slice_get parts q ≡ Some before) × (before.service ≡ other.service)
-  from_set q other e = go (cases_eq q p)
-    where
-      go : (q ≡ p) ⊎ (q ≡ p → ⊥) → (before : OpenPart) × (slice_get parts q ≡ Some before) × (before.service ≡ other.service)
-      go (inl here) =
-          let now = nth_set_same parts p part (in_state state part) there in
-          let same : in_state state part ≡ other = cc in
-          (part, cc, ap (λ x. x.service) same)
-      go (inr apart) = (other, sym (nth_set_other parts p q (in_state state part) apart) ∙ e, refl)
+  from_set =
+      by_place (λ q other. (before : OpenPart) × (slice_get parts q ≡ Some before) × (before.service ≡ other.service)) parts p part (in_state state part) there
+      (part, there, refl) (λ q other _ e. (other, e, refl))
 
   pub open_set : OpenParts services parts → OpenParts services (set parts p (in_state state part))
   open_set o = record {
@@ -78,8 +66,7 @@ module _ (services : ℕ) (parts : List OpenPart) (p : ℕ) (part : OpenPart) (s
 pub waits_other : (parts : List OpenPart) (p : ℕ) (part : OpenPart) (state : PartState) (v : ℕ) → slice_get parts p ≡ Some part → v ≢ part.service → waits_in v (set parts p (in_state state part)) ≡ waits_in v parts
 waits_other [] p part state v e other = refl
 waits_other (first ∷ parts) zero part state v e other =
-    let alike : first ≡ part = cc in
-    let same : first.service ≡ part.service = ap (λ x. x.service) alike in
+    let same = ap (λ x. x.service) (same_Some first part e) in
     waits_there v (in_state state part) parts (λ s. other (sym s)) ∙ sym (waits_there v first parts (λ s. other (sym s ∙ same)))
 waits_other (first ∷ parts) (suc p) part state v e other = let ih = waits_other parts p part state v e other in rw ih refl
 

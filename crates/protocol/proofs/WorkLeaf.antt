@@ -7,7 +7,7 @@ use Rattle.banks.specs.Bank.{BankModel}
 use Rattle.banks.proofs.OneStore.{nth_set_same, nth_set_other}
 use Rattle.pools.specs.Pools.{nth_fitting, without_nth}
 use Rattle.parts.specs.Runs.{BankRun}
-use Rattle.protocol.specs.Calls.{Outcome, run_in_trial, with_service, with_requests, with_stores}
+use Rattle.protocol.specs.Calls.{run_in_trial, with_service, with_requests, with_stores}
 use Rattle.protocol.specs.Law.{settled_by}
 use Rattle.protocol.specs.Ledger.{Ledger, Fate}
 use Rattle.protocol.specs.Ledger.Engagement.{engaged}
@@ -16,7 +16,7 @@ use Rattle.protocol.specs.Runs.Call.{WORK}
 use Rattle.protocol.specs.Site.{Site, Transaction, Hold, Request, request_for}
 use Rattle.protocol.specs.Site.Service.{given, holding}
 use Rattle.protocol.specs.Kept.{Kept}
-use Rattle.protocol.proofs.Guards.{by_option, by_phase, by_service}
+use Rattle.protocol.proofs.Guards.{by_work}
 use Rattle.protocol.proofs.Invariant.{Inv, KeptAfter, Keeps, Given, Held, HasPart, at_rest, entries, named, settled_store}
 use Rattle.protocol.proofs.OpenTrials.{tried_rest, closed_rest}
 use Rattle.protocol.proofs.Phases.{moved}
@@ -95,12 +95,6 @@ module _ (start : BankModel) (s : Site) (l : Ledger) (N : ℕ → Transaction) (
 
 pub work_keeps : (v : ℕ) → Keeps (WORK v)
 work_keeps v start s l N k I =
-    by_service s P (λ _ _. (N, I)) v _ (λ service there.
-    by_phase P service _ _ _ _ _ (λ _. (N, I)) (λ _. (N, I))
-    (λ is_given. by_option P (nth_fitting request_for v 0 s.requests) _ _ (λ _. (N, I)) (λ r taken.
-    let (m, stored) = beside s.services s.stores v service k.services there in
-    (N, worked_keeps start s l N k I v r m (there ∙ ap Some is_given) stored taken)))
-    (λ _ _. (N, I)) (λ _ _. (N, I)))
-  where
-    P : Outcome → Type 0
-    P = KeptAfter start s l (WORK v)
+    by_work s (KeptAfter start s l (WORK v)) (λ _ _. (N, I)) v (λ r there taken.
+    let (m, stored) = beside s.services s.stores v given k.services there in
+    (N, worked_keeps start s l N k I v r m there stored taken))

@@ -1,4 +1,4 @@
-// The protocol: what each call of a site answers and changes, as definitions; and the law of every run.
+//! The protocol: what each call of a site answers and changes, as definitions; and the law of every run.
 #![tactic(auto)]
 
 mod laws;

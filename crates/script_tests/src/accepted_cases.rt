@@ -16,48 +16,39 @@ fn two_parts(rt: HostRuntime) -> Result<(), Fail> {
     ];
     let script = read_script(&bytes, 2)?;
     assert_eq!(rt; script.len(), 2);
-    let Some(first) = script.part(0) else {
-        return Err(Fail::new("no first part"));
-    };
+    let first = script.part(0).ok_or("no first part")?;
     assert_eq!(rt; first.service, 1);
     assert_eq!(rt; first.place, 0);
     assert_eq!(rt; first.operations.len(), 2);
     assert_eq!(rt;
-        first.operations.get(0),
-        Some(Operation::Put {
-            key: 258,
-            value: 772,
-        })
-    );
-    assert_eq!(rt;
-        first.operations.get(1),
-        Some(Operation::Look {
-            key: 0x100000000000000,
-        })
+        first.operations.as_slice(),
+        &[
+            Operation::Put {
+                key: 258,
+                value: 772,
+            },
+            Operation::Look {
+                key: 0x100000000000000,
+            },
+        ][..]
     );
     assert_eq!(rt; first.operations.get(2), None);
-    let Some(second) = script.part(1) else {
-        return Err(Fail::new("no second part"));
-    };
+    let second = script.part(1).ok_or("no second part")?;
     assert_eq!(rt; second.service, 0);
     assert_eq!(rt; second.place, 24);
     assert_eq!(rt; second.operations.len(), 3);
     assert_eq!(rt;
-        second.operations.get(0),
-        Some(Operation::Need {
-            key: 9,
-            value: 0xffffffff,
-        })
-    );
-    assert_eq!(rt;
-        second.operations.get(1),
-        Some(Operation::Add { key: 9, value: 256 })
-    );
-    assert_eq!(rt;
-        second.operations.get(2),
-        Some(Operation::Drop {
-            key: 0xffffffffffffffff,
-        })
+        second.operations.as_slice(),
+        &[
+            Operation::Need {
+                key: 9,
+                value: 0xffffffff,
+            },
+            Operation::Add { key: 9, value: 256 },
+            Operation::Drop {
+                key: 0xffffffffffffffff,
+            },
+        ][..]
     );
     assert!(rt; script.part(2).is_none());
     Ok(())
@@ -69,9 +60,7 @@ fn greatest(rt: HostRuntime) -> Result<(), Fail> {
     assert_eq!(rt; bytes.len(), 424);
     let script = read_script(&bytes, 4)?;
     assert_eq!(rt; script.len(), 4);
-    let Some(last) = script.part(3) else {
-        return Err(Fail::new("no last part"));
-    };
+    let last = script.part(3).ok_or("no last part")?;
     assert_eq!(rt; last.service, 3);
     assert_eq!(rt; last.place, 318);
     assert_eq!(rt; last.operations.len(), 8);

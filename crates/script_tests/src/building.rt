@@ -5,7 +5,7 @@ pub const LOOK: [u8; 9] = [2, 0, 0, 0, 0, 0, 0, 0, 7];
 
 pub const PUT: [u8; 13] = [3, 0, 0, 0, 0, 0, 0, 0, 7, 0, 0, 0, 1];
 
-// Adds a part with so many times one operation.
+/// Adds a part with so many times one operation.
 pub fn add_part(
     bytes: &mut Vec<u8>,
     service: u8,
@@ -19,7 +19,7 @@ pub fn add_part(
     Ok(())
 }
 
-// So many parts of the greatest size, 106 bytes each.
+/// So many parts of the greatest size, 106 bytes each.
 pub fn full_parts(heap: Global, count: u8) -> Result<Vec<u8>, AllocError> {
     let mut bytes = Vec::new(heap);
     for service in 0..count {

@@ -1,4 +1,4 @@
-// Worked examples of scripts.
+//! Worked examples of scripts.
 #![tactic(auto)]
 
 #[cfg(test)]

@@ -1,4 +1,5 @@
-// Each refusal, at the first place and at the last at which it can be.
+// Each refusal, at the first place and at the last at which it can be. The numbers are the rules' own,
+// so they are tried as numbers.
 use crate::building::{LOOK, PUT, add_part, full_parts};
 use scripts::read_script;
 use std::process::Abort;
@@ -11,10 +12,8 @@ fn check_refused(
     number: u8,
     place: usize,
 ) -> Result<(), Fail> {
-    let Err(refusal) = read_script(bytes, services) else {
-        return Err(Fail::new("accepted"));
-    };
-    assert_eq!(rt; refusal.reason.number(), number);
+    let refusal = read_script(bytes, services).err().ok_or("accepted")?;
+    assert_eq!(rt; u8::from(refusal.reason), number);
     assert_eq!(rt; refusal.place, place);
     Ok(())
 }

@@ -1,8 +1,9 @@
 -- What holds of the parts at every command, and that each command keeps it.
-use Rattle.std.proofs.Common.{◌≡◌, ℕ, zero, suc, ◌+◌, ◌-◌, ◌<◌, ◌≤◌, false, ◌≢◌, ◌⊎◌, List, [], ◌∷◌, ◌++◌, length, set, Ok, sym, refl, ap, ◌∙◌, subst, inl, inr, ⊎_elim, arith, length-append, length-set}
-use Rattle.std.proofs.lemmas.List.{get_or_append_left, get_or_push, get_or-set_other, get_or-set_same}
-use Rattle.std.proofs.lemmas.Bool.{cases_lt}
+use Rattle.std.proofs.Common.{◌≡◌, ◌==◌, ℕ, ◌+◌, ◌-◌, ◌<◌, ◌≤◌, false, List, [], ◌∷◌, ◌++◌, length, set, Ok, sym, refl, ap, ◌∙◌, subst, arith, length-append, length-set}
+use Rattle.std.proofs.lemmas.List.Folds.{list_any_at}
+use Rattle.std.proofs.lemmas.Bool.{false≢true}
 use Rattle.std.proofs.lemmas.Bool.Decides.{nat_tests}
+use Rattle.std.proofs.lemmas.Grind.{common_steps}
 use Rattle.scripts.specs.declared.commands.Command.{Command}
 use Rattle.scripts.specs.declared.commands.Command.TheVariants.{Open, Act}
 use Rattle.scripts.specs.Laws.{nth_part}
@@ -28,55 +29,37 @@ kept_none services = record {
 
 -- a service that is not named is no part's
 not_named : (service : ℕ) (ps : List Part) (i : ℕ) → named service ps ≡ false → i < length ps → (nth_part ps i).service ≡ service → ⊥
-not_named service [] i free h same = omega arith
-not_named service (p ∷ ps) zero free h same = let z : ◌≡◌ {A = ℕ} 0 1 = grind (arith, nat_tests) in omega arith
-not_named service (p ∷ ps) (suc i) free h same = not_named service ps i (grind (arith, nat_tests)) (omega arith) same
-
-at_pushed : (ps : List Part) (p : Part) (i : ℕ) → i < length ps + 1 → ((i < length ps) × (nth_part (ps ++ (p ∷ [])) i ≡ nth_part ps i)) ⊎ ((i ≡ length ps) × (nth_part (ps ++ (p ∷ [])) i ≡ p))
-at_pushed ps p i h =
-    ⊎_elim (λ before. inl (before, get_or_append_left ps (p ∷ []) (opened 0 0) i before))
-    (λ last. let there : i ≡ length ps = omega arith in inr (there, get_or_push ps p (opened 0 0) i (sym there)))
-    (cases_lt i (length ps))
-
-at_written : (ps : List Part) (p : Part) (i : ℕ) → i < length ps → ((i + 1 < length ps) × (nth_part (set ps (length ps - 1) p) i ≡ nth_part ps i)) ⊎ ((i ≡ length ps - 1) × (nth_part (set ps (length ps - 1) p) i ≡ p))
-at_written ps p i h =
-    ⊎_elim (λ before. let other : i ≢ length ps - 1 = omega arith in inl (before, get_or-set_other ps (length ps - 1) i p (opened 0 0) other))
-    (λ last. let there : i ≡ length ps - 1 = omega arith in inr (there, ap (nth_part (set ps (length ps - 1) p)) there ∙ get_or-set_same ps (length ps - 1) p (opened 0 0) (omega arith)))
-    (cases_lt (i + 1) (length ps))
+not_named service ps i free h same =
+    false≢true (sym free ∙ list_any_at (λ p. service == p.service) ps i (opened 0 0) h (grind (arith, nat_tests)))
 
 kept_pushed : (services : ℕ) (ps : List Part) (p : Part) → Kept services ps → length ps < 4 → p.service < services → length p.operations ≤ 8 → (0 < length ps → 1 ≤ length (newest ps).operations) → ((i : ℕ) → i < length ps → (nth_part ps i).service ≡ p.service → ⊥) → Kept services (ps ++ (p ∷ []))
 kept_pushed services ps p kept room known short filled free =
     let count : length (ps ++ (p ∷ [])) ≡ length ps + 1 = simp length-append refl in
     record {
       few = omega arith;
-      known = λ i h. let at = at_pushed ps p i (omega arith) in let k = kept.known i in grind arith;
-      short = λ i h. let at = at_pushed ps p i (omega arith) in let k = kept.short i in grind arith;
+      known = λ i h. let k = kept.known i in grind (arith, common_steps);
+      short = λ i h. let k = kept.short i in grind (arith, common_steps);
       filled = λ i h.
-          let same = get_or_append_left ps (p ∷ []) (opened 0 0) i (omega arith) in
           let k = kept.filled i in
           let last = λ (there : i ≡ length ps - 1). ap (λ n. length (nth_part ps n).operations) there in
-          let cases = cases_lt (i + 1) (length ps) in
-          grind arith;
+          grind (arith, common_steps);
       apart = λ i j h k same.
-          let left = get_or_append_left ps (p ∷ []) (opened 0 0) i (omega arith) in
-          let at = at_pushed ps p j (omega arith) in
           let a = kept.apart i j h in
           let f = free i in
-          grind arith;
+          grind (arith, common_steps);
     }
 
 kept_written : (services : ℕ) (ps : List Part) (p : Part) → Kept services ps → 0 < length ps → p.service ≡ (newest ps).service → 1 ≤ length p.operations → length p.operations ≤ 8 → Kept services (set ps (length ps - 1) p)
 kept_written services ps p kept some same filled short =
     let count = length-set ps (length ps - 1) p in
     let service : (i : ℕ) → i < length ps → (nth_part (set ps (length ps - 1) p) i).service ≡ (nth_part ps i).service = λ i h.
-    let at = at_written ps p i h in
     let last = λ (there : i ≡ length ps - 1). ap (λ n. (nth_part ps n).service) there in
-    grind arith in
+    grind (arith, common_steps) in
     record {
       few = omega (arith, kept.few);
       known = λ i h. let s = service i (omega arith) in let k = kept.known i (omega arith) in omega arith;
-      short = λ i h. let at = at_written ps p i (omega arith) in let k = kept.short i in grind arith;
-      filled = λ i h. let at = at_written ps p i (omega arith) in let k = kept.filled i in grind arith;
+      short = λ i h. let k = kept.short i in grind (arith, common_steps);
+      filled = λ i h. let k = kept.filled i in grind (arith, common_steps);
       apart = λ i j h k e. kept.apart i j h (omega arith) (sym (service i (omega arith)) ∙ e ∙ service j (omega arith));
     }
 

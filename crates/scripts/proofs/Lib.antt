@@ -1,4 +1,3 @@
-mod InUse
 mod Kept
 pub mod Lawful
 mod Rules

@@ -7,7 +7,7 @@ use Rattle.scripts.specs.declared.types.ScriptReason.{ScriptReason}
 use Rattle.scripts.specs.declared.types.ScriptRefusal.{ScriptRefusal}
 use Rattle.scripts.specs.declared.commands.Spelled.{Spelled}
 use Rattle.scripts.specs.Commands.{command_at}
-use Rattle.scripts.specs.Reading.{Part, Progress, named, newest, opened, with_newest, take_in, read_command}
+use Rattle.scripts.specs.Reading.{Part, Progress, named, newest, opened, with_newest, take_in, next_progress, read_command}
 
 -- how far a command reaches, and that only the code 1 opens a part
 pub record Fair (bytes : List ℕ) (at : ℕ) (s : Spelled) : Type 0 where
@@ -69,13 +69,9 @@ module _ (services : ℕ) (bytes : List ℕ) (p : Progress) where
   pub came : (q : Progress) → read_command services bytes p ≡ Ok q → Came services bytes p q
   came q ok = came_as q _ refl ok
 
-  refused_in : (refusal : ScriptRefusal) (s : Spelled) (o : Result (List Part) ScriptReason) → command_at bytes p.at ≡ Ok s → take_in services p.at s.command p.parts ≡ o → read_command services bytes p ≡ Err refusal → refusal.place ≡ p.at
-  refused_in refusal s (Err reason) read into no_go = grind (arith, nat_tests)
-  refused_in refusal s (Ok parts) read into no_go = grind (arith, nat_tests)
-
-  refused_as : (refusal : ScriptRefusal) (o : Result Spelled ScriptReason) → command_at bytes p.at ≡ o → read_command services bytes p ≡ Err refusal → refusal.place ≡ p.at
-  refused_as refusal (Err reason) read no_go = grind (arith, nat_tests)
-  refused_as refusal (Ok s) read no_go = refused_in refusal s _ read refl no_go
+  refused_as : (refusal : ScriptRefusal) (o : Result Progress ScriptReason) → next_progress services bytes p ≡ o → read_command services bytes p ≡ Err refusal → refusal.place ≡ p.at
+  refused_as refusal (Err reason) next no_go = grind (arith, nat_tests)
+  refused_as refusal (Ok further) next no_go = grind (arith, nat_tests)
 
   -- a refused command is blamed at its own place
   pub refused_there : (refusal : ScriptRefusal) → read_command services bytes p ≡ Err refusal → refusal.place ≡ p.at

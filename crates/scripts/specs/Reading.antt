@@ -1,5 +1,6 @@
 -- Reading a script: command by command, each refused or taken into the parts read so far.
-use Rattle.std.specs.Prelude.{ℕ, zero, suc, ◌-◌, Bool, false, cond, ◌&&◌, ◌||◌, List, [], ◌∷◌, ◌++◌, length, Ok, Err, Result, ◌==◌, nat_le, nat_lt, slice_index_or, slice_set}
+use Rattle.std.specs.Prelude.{ℕ, zero, suc, ◌-◌, Bool, cond, ◌&&◌, ◌||◌, List, [], ◌∷◌, ◌++◌, length, Ok, Err, Result, ◌==◌, nat_le, nat_lt, slice_index_or, slice_set}
+use Rattle.std.specs.List.{list_any}
 use Rattle.scripts.specs.declared.types.Operation.{Operation}
 use Rattle.scripts.specs.declared.commands.Command.{Command}
 use Rattle.scripts.specs.declared.commands.Command.TheVariants.{Open, Act}
@@ -35,8 +36,7 @@ abbrev pub with_newest : Operation → List Part → List Part
 with_newest operation parts = slice_set parts (length parts - 1) (with_operation operation (newest parts))
 
 abbrev pub named : (service : ℕ) → List Part → Bool
-named service [] = false
-named service (p ∷ ps) = service == p.service || named service ps
+named service parts = list_any (λ p. service == p.service) parts
 
 abbrev pub refused_if : {X : Type 0} → Bool → ScriptReason → Result X ScriptReason → Result X ScriptReason
 refused_if test reason otherwise = cond test (Err reason) otherwise
@@ -73,17 +73,22 @@ start = record { at = 0; parts = [] }
 abbrev pub refused : {X : Type 0} → ScriptReason → (place : ℕ) → Result X ScriptRefusal
 refused reason place = Err (record { reason = reason; place = place })
 
--- one command further
-abbrev pub read_command : (services : ℕ) → List ℕ → Progress → Result Progress ScriptRefusal
-read_command services bytes p =
+-- one command further, or why not
+abbrev pub next_progress : (services : ℕ) → List ℕ → Progress → Result Progress ScriptReason
+next_progress services bytes p =
     elim (command_at bytes p.at) [
-      | Err reason ↦ refused reason p.at
+      | Err reason ↦ Err reason
       | Ok spelled ↦
           elim (take_in services p.at spelled.command p.parts) [
-            | Err reason ↦ refused reason p.at
+            | Err reason ↦ Err reason
             | Ok parts ↦ Ok (record { at = spelled.end; parts = parts })
           ]
     ]
+
+-- one command further; a refusal blames the place of the command
+abbrev pub read_command : (services : ℕ) → List ℕ → Progress → Result Progress ScriptRefusal
+read_command services bytes p =
+    elim (next_progress services bytes p) [ Err reason ↦ refused reason p.at | Ok further ↦ Ok further ]
 
 -- at the end of a script there must be a part, and the last one must have an operation
 abbrev pub end_script : (place : ℕ) → List Part → Result (List Part) ScriptRefusal

@@ -1,11 +1,21 @@
 // The one table of codes: which command stands at a place of a script.
-ghost use Rattle.std.specs.Prelude.{◌≡◌, ◌+◌, ◌<◌, length};
+ghost use Rattle.std.specs.Prelude.{◌≡◌, ◌+◌, ◌<◌, ◌≤◌, length};
 ghost use Rattle.scripts.specs.Commands.{big_endian, command_at};
 
 use crate::types::{Operation, ScriptReason};
 
-// The code that opens a part.
+// The codes: one opens a part, the others are operations.
 pub(crate) const OPEN: u8 = 1;
+
+const LOOK: u8 = 2;
+
+const PUT: u8 = 3;
+
+const NEED: u8 = 4;
+
+const ADD: u8 = 5;
+
+const DROP: u8 = 6;
 
 // The bytes of a key, and of a key with its value.
 const KEY: usize = 8;
@@ -13,54 +23,54 @@ const KEY: usize = 8;
 const PAIR: usize = 12;
 
 // A command of a script: it opens the part for a service, or acts in the part that is open.
-#[derive(Clone, Copy)]
+#[derive(Clone, Copy, PartialEq, Eq, Debug)]
 pub(crate) enum Command {
     Open { service: u8 },
     Act { operation: Operation },
 }
 
 // A command and the place behind it.
-#[derive(Clone, Copy)]
+#[derive(Clone, Copy, PartialEq, Eq, Debug)]
 pub(crate) struct Spelled {
     pub(crate) command: Command,
     pub(crate) end: usize,
 }
 
-// Reads the command whose code stands at a place.
+// Reads the command whose code stands at a place: an arm for each code, as a table is read.
 pub(crate) fn command_at(bytes: &[u8], at: usize) -> Result<Spelled, ScriptReason>
     requires { at < length bytes.now }
     ensures { result ≡ command_at bytes.now at }
 {
-    let operands = bytes.len() - at - 1;
+    let operands = &bytes[at + 1..];
     match bytes[at] {
-        OPEN if operands >= 1 => {
-            let service = bytes[at + 1];
+        OPEN if !operands.is_empty() => {
+            let service = operands[0];
             Ok(Spelled {
                 command: Command::Open { service },
                 end: at + 2,
             })
         }
-        2 if operands >= KEY => {
-            let key = key(bytes, at);
+        LOOK if operands.len() >= KEY => {
+            let key = key(operands);
             Ok(acting(Operation::Look { key }, at + 1 + KEY))
         }
-        3 if operands >= PAIR => {
-            let (key, value) = pair(bytes, at);
+        PUT if operands.len() >= PAIR => {
+            let (key, value) = pair(operands);
             Ok(acting(Operation::Put { key, value }, at + 1 + PAIR))
         }
-        4 if operands >= PAIR => {
-            let (key, value) = pair(bytes, at);
+        NEED if operands.len() >= PAIR => {
+            let (key, value) = pair(operands);
             Ok(acting(Operation::Need { key, value }, at + 1 + PAIR))
         }
-        5 if operands >= PAIR => {
-            let (key, value) = pair(bytes, at);
+        ADD if operands.len() >= PAIR => {
+            let (key, value) = pair(operands);
             Ok(acting(Operation::Add { key, value }, at + 1 + PAIR))
         }
-        6 if operands >= KEY => {
-            let key = key(bytes, at);
+        DROP if operands.len() >= KEY => {
+            let key = key(operands);
             Ok(acting(Operation::Drop { key }, at + 1 + KEY))
         }
-        1..=6 => Err(ScriptReason::MissingOperands),
+        OPEN..=DROP => Err(ScriptReason::MissingOperands),
         _ => Err(ScriptReason::UnknownCode),
     }
 }
@@ -74,39 +84,26 @@ fn acting(operation: Operation, end: usize) -> Spelled
     }
 }
 
-// The key behind the code at a place.
-fn key(bytes: &[u8], at: usize) -> u64
-    requires { at + 8 < length bytes.now }
-    ensures { result ≡ big_endian 8 bytes.now (at + 1) }
+// The key at the front of the operands.
+fn key(operands: &[u8]) -> u64
+    requires { 8 ≤ length operands.now }
+    ensures { result ≡ big_endian 8 operands.now 0 }
 {
-    u64::from_be_bytes([
-        bytes[at + 1],
-        bytes[at + 2],
-        bytes[at + 3],
-        bytes[at + 4],
-        bytes[at + 5],
-        bytes[at + 6],
-        bytes[at + 7],
-        bytes[at + 8],
-    ])
+    u64::from_be_bytes(*operands.first_chunk().unwrap())
 }
 
 // That key, and the value behind it.
-fn pair(bytes: &[u8], at: usize) -> (u64, u32)
-    requires { at + 12 < length bytes.now }
-    ensures { result ≡ (big_endian 8 bytes.now (at + 1), big_endian 4 bytes.now (at + 9)) }
+fn pair(operands: &[u8]) -> (u64, u32)
+    requires { 12 ≤ length operands.now }
+    ensures { result ≡ (big_endian 8 operands.now 0, big_endian 4 operands.now 8) }
 {
-    (key(bytes, at), value(bytes, at))
+    (key(operands), value(&operands[KEY..]))
 }
 
-fn value(bytes: &[u8], at: usize) -> u32
-    requires { at + 12 < length bytes.now }
-    ensures { result ≡ big_endian 4 bytes.now (at + 9) }
+// As `key`, for the bytes of a value: no trait has `from_be_bytes` for both widths.
+fn value(operand: &[u8]) -> u32
+    requires { 4 ≤ length operand.now }
+    ensures { result ≡ big_endian 4 operand.now 0 }
 {
-    u32::from_be_bytes([
-        bytes[at + 9],
-        bytes[at + 10],
-        bytes[at + 11],
-        bytes[at + 12],
-    ])
+    u32::from_be_bytes(*operand.first_chunk().unwrap())
 }

@@ -1,11 +1,10 @@
-// Scripts: bytes read as the parts of a transaction, each a few operations on one service.
+//! Scripts: bytes read as the parts of a transaction, each a few operations on one service.
 #![tactic(auto)]
 
 mod bounded;
 mod commands;
 mod cursor;
 mod laws;
-mod operations;
 mod parts;
 mod reader;
 mod types;

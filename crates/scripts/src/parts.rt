@@ -3,76 +3,84 @@ ghost use Rattle.std.specs.Prelude.{◌≡◌, ◌<◌, [], ◌∷◌, ◌++◌,
 ghost use Rattle.std.specs.Option.{option_map};
 ghost use Rattle.std.specs.List.{slice_get};
 ghost use Rattle.scripts.specs.Lists.{part_of, parts_of};
-ghost use Rattle.scripts.specs.Reading.{ends_empty, named, newest, opened, with_newest};
+ghost use Rattle.scripts.specs.Reading.{ends_empty, named, newest, none, opened, with_newest};
 
-use crate::bounded::{OperationList, PART_LIMIT, Script, ScriptPart, item};
+use crate::bounded::{OperationList, Script, ScriptPart};
 use crate::types::Operation;
+use short_lists::ShortList;
+
+impl ScriptPart {
+    // A part without operations.
+    fn opened(service: u8, place: usize) -> Self
+        ensures { part_of result ≡ opened service place }
+    {
+        ScriptPart {
+            service,
+            place,
+            operations: OperationList::new(Operation::Look { key: 0 }),
+        }
+    }
+}
 
 impl Script {
     pub(crate) fn new() -> Self
         ensures { parts_of result ≡ [] }
     {
-        let part = ScriptPart {
-            service: 0,
-            place: 0,
-            operations: OperationList::new(),
-        };
         Script {
-            items: [part; PART_LIMIT],
-            used: 0,
+            parts: ShortList::new(ScriptPart::opened(0, 0)),
         }
     }
 
-    // The parts in their order.
+    /// The parts in their order.
     pub fn as_slice(&self) -> &[ScriptPart]
         ensures { map part_of result.now ≡ parts_of self.now }
     {
-        &self.items[0..self.used]
+        self.parts.as_slice()
     }
 
-    // How many parts there are.
+    /// How many parts there are.
     pub fn len(&self) -> usize
         ensures { result ≡ length (parts_of self.now) }
     {
-        self.in_use().len()
+        self.parts.len()
     }
 
-    // The part with a number, from 0.
+    pub(crate) fn is_empty(&self) -> bool
+        ensures { result ≡ none (parts_of self.now) }
+    {
+        self.parts.is_empty()
+    }
+
+    /// The part with a number, from 0.
     pub fn part(&self, i: usize) -> Option<ScriptPart>
         ensures { option_map part_of result ≡ slice_get (parts_of self.now) i }
     {
-        part_in(self.in_use(), i)
-    }
-
-    fn in_use(&self) -> &[ScriptPart]
-        ensures parts { map part_of result.now ≡ parts_of self.now }
-        ensures count { length result.now ≡ length (parts_of self.now) }
-    {
-        self.as_slice()
+        self.parts.get(i)
     }
 
     // Whether a part is for the service.
     pub(crate) fn names(&self, service: u8) -> bool
         ensures { result ≡ named service (parts_of self.now) }
     {
-        names(self.in_use(), service)
+        self.as_slice().iter().any(|part| part.service == service)
     }
 
     // How many operations the newest part has.
     pub(crate) fn newest_len(&self) -> usize
         ensures { result ≡ length (newest (parts_of self.now)).operations }
     {
-        if self.used == 0 {
-            return 0;
-        }
-        self.items[self.used - 1].operations.len()
+        self.as_slice()
+            .last()
+            .map_or(0, |part| part.operations.len())
     }
 
     // Whether the newest part has no operation.
     pub(crate) fn ends_empty(&self) -> bool
         ensures { result ≡ ends_empty (parts_of self.now) }
     {
-        self.len() > 0 && self.newest_len() == 0
+        self.as_slice()
+            .last()
+            .is_some_and(|part| part.operations.is_empty())
     }
 
     // Opens a part.
@@ -80,39 +88,18 @@ impl Script {
         requires { length (parts_of self.old) < 4 }
         ensures { parts_of self.new ≡ parts_of self.old ++ (opened service place ∷ []) }
     {
-        self.items[self.used] = ScriptPart {
-            service,
-            place,
-            operations: OperationList::new(),
-        };
-        self.used += 1;
+        self.parts.push(ScriptPart::opened(service, place)).unwrap();
     }
 
-    // Adds an operation to the newest part.
+    // Adds an operation to the newest part, which is taken out and put back: lending it would take a
+    // contract on the loan for this one caller.
     pub(crate) fn add(&mut self, operation: Operation)
         requires { (0 < length (parts_of self.old)) × (length (newest (parts_of self.old)).operations < 8) }
         ensures { parts_of self.new ≡ with_newest operation (parts_of self.old) }
     {
-        let last = self.used - 1;
-        let mut part = self.items[last];
-        part.operations.push(operation);
-        self.items[last] = part;
+        let last = self.len() - 1;
+        let mut part = self.as_slice()[last];
+        part.operations.push(operation).unwrap();
+        self.parts.set(last, part);
     }
-}
-
-fn names(parts: &[ScriptPart], service: u8) -> bool
-    ensures { result ≡ named service (map part_of parts.now) }
-{
-    for part in parts {
-        if part.service == service {
-            return true;
-        }
-    }
-    false
-}
-
-fn part_in(parts: &[ScriptPart], i: usize) -> Option<ScriptPart>
-    ensures { option_map part_of result ≡ slice_get (map part_of parts.now) i }
-{
-    item(parts, i)
 }

@@ -8,7 +8,7 @@ use crate::bounded::Script;
 use crate::cursor::{Cursor, PartText};
 use crate::types::ScriptRefusal;
 
-// A reader of a script: it stands where a part may begin.
+/// A reader of a script: it stands where a part may begin.
 #[derive(Clone, Copy)]
 pub struct Reader<'a> {
     cursor: Cursor<'a>,
@@ -16,7 +16,7 @@ pub struct Reader<'a> {
 }
 
 impl<'a> Reader<'a> {
-    // A reader at the start of a script, for so many services.
+    /// A reader at the start of a script, for so many services.
     pub fn new(bytes: &'a [u8], services: u8) -> Self
         ensures starts { progress result.cursor ≡ start }
         ensures comes { comes_to result.cursor ≡ read_script services bytes.now }
@@ -31,7 +31,8 @@ impl<'a> Reader<'a> {
         }
     }
 
-    // Reads the next part, if one is left. A refused part leaves the reader as it was.
+    /// Reads the next part, if one is left. A refused part leaves the reader as it was, so that a
+    /// `for` over it would not end: this is no `Iterator`.
     pub fn next_part(&mut self) -> Result<Option<PartText<'a>>, ScriptRefusal>
         ensures hands { Hands result self.old.cursor self.new.cursor }
         ensures unchanged { is_err result ≡ true → self.new.cursor ≡ self.old.cursor }
@@ -42,7 +43,7 @@ impl<'a> Reader<'a> {
         Ok(part)
     }
 
-    // The parts that were read.
+    /// The parts that were read.
     pub fn script(&self) -> Script
         ensures { result ≡ self.now.cursor.script }
     {
@@ -50,7 +51,7 @@ impl<'a> Reader<'a> {
     }
 }
 
-// Reads a script for so many services: its parts, or the first refusal.
+/// Reads a script for so many services: its parts, or the first refusal.
 pub fn read_script(bytes: &[u8], services: u8) -> Result<Script, ScriptRefusal>
     ensures { answer_of result ≡ read_script services bytes.now }
 {

@@ -1,3 +1,3 @@
-pub mod Scans
-pub mod Steps
 pub mod StepLaws
+pub mod Writes
+pub mod Noted

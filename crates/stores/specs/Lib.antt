@@ -4,6 +4,7 @@ pub mod Store
 pub mod Places
 pub mod Shadow
 pub mod Notes
+pub mod Undo
 pub mod Laws
 pub mod Rows
 pub mod Maps

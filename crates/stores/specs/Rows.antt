@@ -1,13 +1,37 @@
 -- What a write to a row of places does to the map that it keeps.
-use Rattle.std.specs.Prelude.{◌≡◌, ℕ, zero, suc, ◌<◌, ◌≤◌, Bool, true, false, not, ◌≢◌, [], ◌∷◌, length, is_some, Some, None, Option, slice_index_or, slice_set, refl}
-use Rattle.std.proofs.Common.{ap, sym, ◌∙◌, arith}
-use Rattle.std.proofs.lemmas.Bool.{and_parts, not-true, leb-true}
+use Rattle.std.specs.Prelude.{◌≡◌, ℕ, zero, suc, ◌<◌, ◌≤◌, Bool, true, false, cond, not, ◌≢◌, [], ◌∷◌, length, is_some, Some, None, Option, slice_index_or, slice_set, refl}
+use Rattle.std.specs.List.{position}
+use Rattle.std.proofs.Common.{ap, sym, ◌∙◌, arith, lit≤}
+use Rattle.std.proofs.lemmas.Bool.{and_parts, not-true}
 use Rattle.std.proofs.lemmas.Bool.Decides.{nat_tests}
 use Rattle.stores.specs.declared.types.Pair.{Pair}
 use Rattle.stores.specs.Pairs.{pair, find, insert, erase, Ascending}
-use Rattle.stores.specs.Places.{Places, holds, is_free, later, first, contents, distinct, no_room, trial_of, in_limit}
-use Rattle.stores.specs.Store.{WithinCapacity, SoundTrial, Sound, change_limit}
+use Rattle.stores.specs.Places.{Places, holds, is_free, contents, distinct, no_room}
+use Rattle.short_lists.specs.declared.short_list.ShortList.{ShortList}
+use Rattle.short_lists.specs.Lengths.{listed_few}
+use Rattle.stores.specs.declared.notes.Note.{Note}
+use Rattle.stores.specs.declared.shadow.Draft.{Draft}
+use Rattle.stores.specs.declared.shadow.ShadowStore.{ShadowStore}
+use Rattle.stores.specs.declared.undo.UndoStore.{UndoStore}
+use Rattle.stores.specs.Notes.{notes_of, rewound}
+use Rattle.stores.specs.Rewinds.{length_rewound}
+use Rattle.stores.specs.Shadow.{draft_of, shadow_model}
+use Rattle.stores.specs.Undo.{noted_trial, undo_model}
+use Rattle.stores.specs.Store.{Trial, WithinCapacity, SoundTrial, Sound}
 use Rattle.stores.specs.Maps.{find_insert, find_erase_other, insert_same, insert_comm, erase_insert, erase_insert_other, length_insert, length_insert_new, ascending_insert}
+
+-- the first place that passes a test, by recursion
+abbrev pub later : Option ℕ → Option ℕ
+later None = None
+later (Some i) = Some (suc i)
+
+abbrev pub first : (Option Pair → Bool) → Places → Option ℕ
+first test [] = None
+first test (p ∷ ps) = cond (test p) (Some 0) (later (first test ps))
+
+pub position_is_first : (test : Option Pair → Bool) (ps : Places) → position test ps ≡ first test ps
+position_is_first test [] = refl
+position_is_first test (p ∷ ps) = let ih = position_is_first test ps in grind (arith, nat_tests)
 
 pub contents_ascending : (ps : Places) → Ascending (contents ps)
 contents_ascending [] = tt
@@ -207,24 +231,37 @@ found_by k ps = go (first (holds k) ps) refl
     go (Some i) e = ap is_some e ∙ sym (some_kept k ps i e)
 
 -- a place is free for a new key exactly if the pairs are fewer than the places
-pub room_by : (k : ℕ) (ps : Places) → distinct ps ≡ true → first (holds k) ps ≡ None → is_some (first is_free ps) ≡ not (no_room k ps)
+pub room_by : (k : ℕ) (ps : Places) → distinct ps ≡ true → first (holds k) ps ≡ None → is_some (first is_free ps) ≡ not (no_room k (length ps) (contents ps))
 room_by k ps d e = go (first is_free ps) refl
   where
     absent : find k (contents ps) ≡ None
     absent = none_kept k ps e
 
-    go : (o : Option ℕ) → first is_free ps ≡ o → is_some (first is_free ps) ≡ not (no_room k ps)
+    go : (o : Option ℕ) → first is_free ps ≡ o → is_some (first is_free ps) ≡ not (no_room k (length ps) (contents ps))
     go None n = let all = contents_all ps d n in let none = absent in grind (arith, nat_tests)
     go (Some i) n = let fewer = contents_fewer ps i n in let none = absent in grind (arith, nat_tests)
 
 within_rows : (capacity : ℕ) (ps : Places) → length ps ≡ capacity → WithinCapacity capacity (contents ps)
 within_rows capacity ps sized = record { ascending = contents_ascending ps; few = (let h = contents_few ps in omega arith) }
 
--- what holds of a store that keeps its pairs in two rows as long as its capacity
-pub sound_rows : (capacity : ℕ) (committed working : Places) (changes : Option ℕ) → 8 ≤ capacity → capacity ≤ 64 → length committed ≡ capacity → length working ≡ capacity → in_limit changes ≡ true → Sound (record { capacity = capacity; committed = contents committed; trial = trial_of (contents working) changes })
-sound_rows capacity committed working changes low high c w l =
-    record { not_small = low; not_large = high; committed_pairs = within_rows capacity committed c; open_trial = open_part changes l }
+-- what holds of a store that keeps its committed pairs in a row as long as its capacity
+pub sound_pairs : (capacity : ℕ) (committed : Places) (trial : Option Trial) → 8 ≤ capacity → capacity ≤ 64 → length committed ≡ capacity → SoundTrial capacity trial → Sound (record { capacity = capacity; committed = contents committed; trial = trial })
+sound_pairs capacity committed trial low high sized open_trial =
+    record { not_small = low; not_large = high; committed_pairs = within_rows capacity committed sized; open_trial = open_trial }
+
+-- so it holds of both makes at any time
+pub shadow_sound : (s : ShadowStore) → Sound (shadow_model s)
+shadow_sound s = sound_pairs 16 s.committed.places (draft_of s.trial) (lit≤ tt) (lit≤ tt) s.committed.sized (draft_sound s.trial)
   where
-    open_part : (n : Option ℕ) → in_limit n ≡ true → SoundTrial capacity (trial_of (contents working) n)
-    open_part None e = tt
-    open_part (Some n) e = (within_rows capacity working w, leb-true n change_limit e)
+    draft_sound : (d : Option Draft) → SoundTrial 16 (draft_of d)
+    draft_sound None = tt
+    draft_sound (Some d) = (within_rows 16 d.pairs.places d.pairs.sized, d.limited)
+
+pub undo_sound : (s : UndoStore) → Sound (undo_model s)
+undo_sound s =
+    let before = rewound (notes_of s.trial) s.pairs.places in
+    sound_pairs 32 before (noted_trial s.pairs.places s.trial) (lit≤ tt) (lit≤ tt) (length_rewound (notes_of s.trial) s.pairs.places ∙ s.pairs.sized) (noted_sound s.trial)
+  where
+    noted_sound : (notes : Option (ShortList Note 8)) → SoundTrial 32 (noted_trial s.pairs.places notes)
+    noted_sound None = tt
+    noted_sound (Some notes) = (within_rows 32 s.pairs.places s.pairs.sized, listed_few notes)

@@ -1,10 +1,10 @@
-// Stores: what a store means, and two makes of it.
+//! Stores: what a store means, and two makes of it.
 #![tactic(auto)]
 
 mod interface;
 mod laws;
 mod notes;
-mod places;
+mod rows;
 mod shadow;
 mod types;
 mod undo;

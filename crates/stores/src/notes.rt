@@ -5,7 +5,7 @@ ghost use Rattle.stores.specs.Notes.{rewound};
 use crate::types::Pair;
 
 // What stood in a place before a change.
-#[derive(Clone, Copy)]
+#[derive(Clone, Copy, PartialEq, Eq, Debug, Default)]
 pub(crate) struct Note {
     pub(crate) place: usize,
     pub(crate) before: Option<Pair>,
@@ -15,8 +15,7 @@ pub(crate) struct Note {
 pub(crate) fn rewind(places: &mut [Option<Pair>], notes: &[Note])
     ensures { places.new ≡ rewound notes.now places.old }
 {
-    for i in (0..notes.len()).rev() {
-        let note = notes[i];
+    for note in notes.iter().rev() {
         if note.place < places.len() {
             places[note.place] = note.before;
         }

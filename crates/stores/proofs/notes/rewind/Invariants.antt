@@ -1,6 +1,7 @@
-use Rattle.std.proofs.Common.{◌≡◌, take}
+use Rattle.std.proofs.Common.{◌≡◌}
 use Rattle.stores.specs.Notes.{rewound}
 use Rattle.stores.proofs.notes.rewind.Given as goal
 
-abbrev pub invariant-loop-i : goal.invariant-loop-i
-invariant-loop-i l = rewound (take l.i l.notes) l.places ≡ rewound l.notes l.initial.places
+-- the notes still to come lead back from the places as they are to where all notes lead
+abbrev pub invariant-loop-note : goal.invariant-loop-note
+invariant-loop-note l = rewound l.note-iterator.iter.rest.now l.places ≡ rewound l.notes l.fn.places

@@ -1,28 +1,13 @@
-use Rattle.std.proofs.Common.{◌+◌, ◌<◌, length, set, Some, None, ap, ◌∙◌, arith, length-set}
-use Rattle.std.proofs.lemmas.Bool.{le-leb}
-use Rattle.stores.specs.Notes.{in_use, rewound}
-use Rattle.stores.specs.Places.{contents, distinct}
-use Rattle.stores.specs.Rewinds.{rewound_noted}
-use Rattle.stores.proofs.Steps.{row_model, drop_placed, drop_distinct}
+use Rattle.std.proofs.Common.{rules}
+use Rattle.stores.proofs.Noted.{still_distinct, drop_noted}
 use Rattle.stores.proofs.undo.UndoStoreStore.drop.Goals as goal
 
-pub invariant_of-self : goal.invariant_of-self
-invariant_of-self c =
-    let s = c.args.self.now in
-    let few = c.if-changes-ge-CHANGE_LIMIT.false in
-    let room : c.in-Some.changes < length s.notes = omega (arith, s.notes_sized) in
-    let apart = drop_distinct 32 (contents (rewound (in_use s.changes s.notes) s.places)) s.places s.changes c.in-Some.changes c.args.key s.sized s.keys_distinct c.in-Some.is c.if-changes-ge-CHANGE_LIMIT.false c.in-Some-place_of.place c.in-Some-place_of.ensures.answer in
-    let noted = rewound_noted s.changes s.notes c.in-Some.changes c.in-Some-place_of.place None s.places c.in-Some.is room in
-    record { sized = length-set _ _ _ ∙ s.sized; keys_distinct = apart; notes_sized = length-set _ _ _ ∙ s.notes_sized; limited = le-leb _ _ (omega arith); rewound_distinct = ap distinct noted ∙ s.rewound_distinct }
-
-pub returns : goal.returns
-returns c =
-    let s = c.args.self.now in
-    let few = c.if-changes-ge-CHANGE_LIMIT.false in
-    let room : c.in-Some.changes < length s.notes = omega (arith, s.notes_sized) in
-    let e = drop_placed 32 (contents (rewound (in_use s.changes s.notes) s.places)) s.places s.changes c.in-Some.changes c.args.key s.sized s.keys_distinct c.in-Some.is c.if-changes-ge-CHANGE_LIMIT.false c.in-Some-place_of.place c.in-Some-place_of.ensures.answer in
-    let noted = rewound_noted s.changes s.notes c.in-Some.changes c.in-Some-place_of.place None s.places c.in-Some.is room in
+pub invariant_of-self-2 : goal.invariant_of-self-2
+invariant_of-self-2 c =
     record {
-      answer = ap (λ x. x.answer) e;
-      next = ap (λ ps. row_model 32 (contents ps) (set s.places c.in-Some-place_of.place None) (Some (c.in-Some.changes + 1))) noted ∙ ap (λ x. x.next) e;
+      rewound_distinct = still_distinct c.args.self.now c.in_ok-notes.notes.now c.push.new.self c.in_ok-note.note c.remove.new.self.places (search rules) (search rules) c.push.ensures.items (search rules);
     }
+
+pub returns-clause-next : goal.returns-clause-next
+returns-clause-next c =
+    drop_noted c.args.self.now c.in_ok-notes.notes.now c.push.new.self c.in_ok-note.note c.remove.new.self.places (search rules) (search rules) c.push.ensures.items (search rules) c.args.key (search rules) (search rules)

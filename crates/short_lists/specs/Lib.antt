@@ -1,0 +1,2 @@
+pub mod ShortList
+pub mod Lengths
