@@ -90,7 +90,7 @@ fn mixed_roll_back<S: Store>(rt: &impl Abort, store: &mut S) -> Result<(), Fail>
     Ok(())
 }
 
-// A test for each make, so that a failure names it.
+// The tests of a full store and of a ninth change stand once for each make, so that a failure names it.
 #[test]
 fn shadow_full(rt: HostRuntime) -> Result<(), Fail> {
     full(&rt, &mut ShadowStore::new(), 2)

@@ -27,6 +27,7 @@ fn on_first<B: Bank, F: Fn(&mut B, u8) -> Result<(), BankRefusal>>(bank: &mut B,
     requires { F.IsAlwaysCallable act }
     ensures { (step : StoreModel → Step (Unit {0})) → ActsAs B.Bank.stores (F.post act) count step → B.Bank.stores bank.new ≡ first_stores step count (B.Bank.stores bank.old) }
 {
+    // The number is the service itself.
     for service in 0..count {
         let _ = act(bank, service);
     }
@@ -38,6 +39,8 @@ pub fn begin_all<B: Bank>(bank: &mut B) -> Result<(), OpenTrial>
     ensures answer { result ≡ begun_answer (B.Bank.stores bank.old) }
     ensures next { B.Bank.stores bank.new ≡ begun_stores (B.Bank.stores bank.old) }
 {
+    // The number is the service itself. Only an open trial is refused, and what was begun is taken back
+    // before it is told: so no `?`.
     for service in 0..bank.count() {
         if bank.begin(service).is_err() {
             on_first(bank, service, B::roll_back);

@@ -26,7 +26,7 @@ const OLDER: [[u8; 3]; 5] = [
     [112, 113, 114],
 ];
 
-// The services of the three stores.
+// The services of the three stores: scripts and banks name them by number.
 const VAULT: u8 = 0;
 
 const INDEX: u8 = 1;

@@ -1,10 +1,11 @@
 // Look numbers kept in place, as many as a part can give.
 ghost use Rattle.std.specs.Prelude.{◌≡◌, [], ◌++◌, length, take};
 
+use scripts::OPERATION_LIMIT;
 use short_lists::ShortList;
 
 /// The most look numbers that a part gives: one for each of its operations.
-pub const LOOK_LIMIT: usize = 8;
+pub const LOOK_LIMIT: usize = OPERATION_LIMIT;
 
 /// The look numbers of a part, in their order. A type of its own, since what does not fit is left out and
 /// callers only read.

@@ -74,6 +74,7 @@ fn vote_on<B: Bank>(bank: &mut B, service: u8, operations: &[Operation], looks: 
             cause: Cause::ByBank(BankRefusal::NoSuchStore),
         };
     }
+    // The vote tells the number of the operation that failed. It is no `Result`: so no `?`.
     for (i, operation) in operations.iter().enumerate() {
         match operate(bank, service, *operation) {
             Ok(look) => looks.note(look),

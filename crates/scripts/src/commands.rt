@@ -36,7 +36,8 @@ pub(crate) struct Spelled {
     pub(crate) end: usize,
 }
 
-// Reads the command whose code stands at a place: an arm for each code, as a table is read.
+// Reads the command whose code stands at a place: an arm for each code, as a table is read. A slice
+// pattern for the operands was tried and did not prove.
 pub(crate) fn command_at(bytes: &[u8], at: usize) -> Result<Spelled, ScriptReason>
     requires { at < length bytes.now }
     ensures { result ≡ command_at bytes.now at }
@@ -100,7 +101,8 @@ fn pair(operands: &[u8]) -> (u64, u32)
     (key(operands), value(&operands[KEY..]))
 }
 
-// As `key`, for the bytes of a value: no trait has `from_be_bytes` for both widths.
+// As `key`, for the bytes of a value: the standard library has no trait with `from_be_bytes`, and one from
+// a further crate would be longer than these two.
 fn value(operand: &[u8]) -> u32
     requires { 4 ≤ length operand.now }
     ensures { result ≡ big_endian 4 operand.now 0 }

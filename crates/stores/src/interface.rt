@@ -5,7 +5,7 @@ ghost use Rattle.stores.specs.Store.{StoreModel, Sound, look, begin_step, put_st
 use crate::types::StoreRefusal;
 
 /// A store of pairs that are changed in trials. Each operation answers and leaves what its
-/// definition on the store's meaning says, in a clause each; a refused one leaves the meaning as it was.
+/// definition on the store's meaning says, in a clause each, since a clause is one fact; a refused one leaves the meaning as it was.
 pub trait Store {
     // What the store means.
     ghost model: { Self → StoreModel };

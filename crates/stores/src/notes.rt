@@ -16,6 +16,7 @@ pub(crate) fn rewind(places: &mut [Option<Pair>], notes: &[Note])
     ensures { places.new ≡ rewound notes.now places.old }
 {
     for note in notes.iter().rev() {
+        // Tested by hand: with a loan from `get_mut` the loop's invariant was tried and did not close.
         if note.place < places.len() {
             places[note.place] = note.before;
         }

@@ -38,8 +38,7 @@ impl<const N: usize> Row<N> {
         ensures unchanged { IfNone result (self.new ≡ self.old) }
     {
         let place = place_for(&self.places, pair.key)?;
-        let before = self.places[place];
-        self.places[place] = Some(pair);
+        let before = self.places[place].replace(pair);
         Some(Note { place, before })
     }
 
@@ -51,8 +50,7 @@ impl<const N: usize> Row<N> {
         ensures unchanged { IfNone result (self.new ≡ self.old) }
     {
         let place = place_of(&self.places, key)?;
-        let before = self.places[place];
-        self.places[place] = None;
+        let before = self.places[place].take();
         Some(Note { place, before })
     }
 }
