@@ -1,5 +1,5 @@
 -- Laws of putting and taking, over the list of waiting messages alone.
-use Rattle.std.proofs.Common.{◌≡◌, ℕ, zero, suc, ◌+◌, ◌≤◌, Bool, true, false, cond, List, [], ◌∷◌, length, is_some, Some, None, Option, sym, refl, ap, ◌∙◌, arith, length-append}
+use Rattle.std.proofs.Common.{◌≡◌, ℕ, zero, suc, ◌+◌, ◌≤◌, Bool, true, false, cond, List, [], ◌∷◌, ◌++◌, length, is_some, Some, None, Option, sym, refl, ap, ◌∙◌, arith, length-append}
 use Rattle.std.proofs.lemmas.List.{length_push}
 use Rattle.std.proofs.lemmas.List.Sums.{length-filter, count_by-le-length}
 use Rattle.std.proofs.lemmas.Bool.{true≢false, false≢true, lt-ltb}
@@ -22,6 +22,23 @@ module _ {M P : Type 0} (meets : M → P → Bool) (party : P) where
   -- no more fit than wait
   pub fitting_le : (ms : List M) → length (fitting meets party ms) ≤ length ms
   fitting_le ms = omega (arith, length-filter (λ m. meets m party) ms, count_by-le-length (λ m. meets m party) ms)
+
+  -- the n-th oldest that fits is the one that fits and has n before it that fit
+  pub nth_at : (front back : List M) (m : M) (n : ℕ) → meets m party ≡ true → length (fitting meets party front) ≡ n → nth_fitting meets party n (front ++ (m ∷ back)) ≡ Some m
+  nth_at [] back m n fits older = grind (arith, nat_tests)
+  nth_at (f ∷ front) back m zero fits older = let ih = nth_at front back m zero fits in grind (arith, nat_tests)
+  nth_at (f ∷ front) back m (suc n) fits older =
+      let fit = nth_at front back m n fits in
+      let other = nth_at front back m (suc n) fits in
+      grind (arith, nat_tests)
+
+  pub without_at : (front back : List M) (m : M) (n : ℕ) → meets m party ≡ true → length (fitting meets party front) ≡ n → without_nth meets party n (front ++ (m ∷ back)) ≡ front ++ back
+  without_at [] back m n fits older = grind (arith, nat_tests)
+  without_at (f ∷ front) back m zero fits older = let ih = without_at front back m zero fits in grind (arith, nat_tests)
+  without_at (f ∷ front) back m (suc n) fits older =
+      let fit = without_at front back m n fits in
+      let other = without_at front back m (suc n) fits in
+      grind (arith, nat_tests)
 
   -- where there is none to take, all stay
   pub without_none : (ms : List M) (n : ℕ) → nth_fitting meets party n ms ≡ None → without_nth meets party n ms ≡ ms

@@ -3,3 +3,4 @@ mod Found
 pub mod Held
 pub mod Laws
 mod Places
+mod Steps

@@ -1,20 +1,37 @@
 -- What is known of a free place, said of the messages that wait.
-use Rattle.std.proofs.Common.{◌≡◌, ℕ, ◌+◌, ◌-◌, ◌<◌, ◌≤◌, true, List, [], ◌∷◌, ◌++◌, length, get_or, take, drop, set, is_none, inl, inr, Some, None, Option, sym, refl, ap, ◌∙◌, append_assoc, arith, length-append, length-drop, take-append-drop, length-take}
+use Rattle.std.proofs.Common.{◌≡◌, ℕ, ◌+◌, ◌-◌, ◌<◌, ◌≤◌, Bool, true, List, [], ◌∷◌, ◌++◌, length, get_or, take, drop, set, is_some, is_none, inl, inr, Some, None, Option, sym, refl, ap, ◌∙◌, append_assoc, add-one, arith, length-append, length-drop, take-append-drop, length-take}
 use borrow.Rule.Slice.PartMut.{put_mid}
-use Rattle.std.proofs.lemmas.List.{append-nil, drop_more, drop_all, take-set, drop-set}
-use Rattle.std.proofs.lemmas.Bool.{false≢true, lt-ltb}
-use Rattle.pools.specs.Pools.{held}
+use Rattle.std.proofs.lemmas.List.{append-nil, get_or_read, set_split, drop_more, drop_all, take-set, drop-set}
+use Rattle.std.proofs.lemmas.Bool.{true≢false, false≢true, lt-ltb}
+use Rattle.pools.specs.Pools.{held, fitting, nth_fitting, without_nth}
 use Rattle.std.proofs.lemmas.Bool.{cases_lt, le-ltb}
 use Rattle.std.proofs.lemmas.List.Sums.{passes_at_first}
 use Rattle.std.specs.List.{position, position_or_len}
-use Rattle.pools.specs.Places.{Vacant, Free}
+use Rattle.pools.specs.Places.{Stands, Vacant, Free}
 use Rattle.pools.proofs.Held.{held_append, held_le}
+use Rattle.pools.proofs.Found.{fits}
+use Rattle.pools.proofs.Laws.{nth_at, without_at}
 
 -- a row is what stands before a place, the place, and what stands behind it
 around : {M : Type 0} (ps : List (Option M)) (i : ℕ) (p : Option M) → i < length ps → ((d : Option M) → get_or ps i d ≡ p) → held ps ≡ held (take i ps) ++ held (p ∷ drop (i + 1) ps)
 around ps i p within here =
     let whole = sym (take-append-drop i ps) ∙ ap (λ qs. take i ps ++ qs) (drop_more ps i p within ∙ ap (λ q. q ∷ drop (i + 1) ps) (here p)) in
     ap held whole ∙ held_append (take i ps) (p ∷ drop (i + 1) ps)
+
+pub stands : {M P : Type 0} (meets : M → P → Bool) (party : P) (n : ℕ) (ps : List (Option M)) (i : ℕ) (p : Option M) → i < length ps → p ≡ get_or ps i p → fits meets party p ≡ true → length (fitting meets party (held (take i ps))) ≡ n → Stands meets party n ps i
+stands meets party n ps i None within read waits older = absurd (false≢true waits)
+stands meets party n ps i (Some m) within read waits older =
+    let here : (d : Option _) → get_or ps i d ≡ Some m = λ d. sym (get_or_read ps i (Some m) within read d) in
+    let whole = around ps i (Some m) within here in
+    let nth_is = ap (nth_fitting meets party n) whole ∙ nth_at meets party _ _ m n waits older in
+    let removed = ap (without_nth meets party n) whole ∙ without_at meets party _ _ m n waits older in
+    let cleared : set ps i None ≡ take i ps ++ (None ∷ drop (i + 1) ps) = rw add-one (set_split ps i None within) in
+    record {
+      within = within;
+      here = λ d. here d ∙ sym nth_is;
+      some = λ none. true≢false (ap is_some (sym nth_is ∙ none));
+      others = ap held cleared ∙ held_append (take i ps) (None ∷ drop (i + 1) ps) ∙ sym removed;
+    }
 
 none_here : {M : Type 0} (p : Option M) → is_none p ≡ true → p ≡ None
 none_here None empty = refl
