@@ -1,10 +1,12 @@
 -- What a row of places answers, and what a write to it does to the map that it keeps.
-use Rattle.std.proofs.Common.{◌≡◌, ℕ, zero, suc, true, not, [], length, set, replicate, is_some, Some, None, Option, slice_index_or, sym, refl, ap, ◌∙◌, arith}
+use Rattle.std.proofs.Common.{◌≡◌, ℕ, zero, suc, ◌+◌, ◌<◌, true, not, [], length, set, replicate, is_some, Some, None, Ok, Option, slice_index_or, sym, refl, ap, ◌∙◌, arith}
+use Rattle.std.proofs.lemmas.Bool.Decides.{nat_tests}
 use Rattle.std.specs.List.{position}
 use Rattle.std.specs.Option.{option_map}
 use Rattle.stores.specs.declared.types.Pair.{Pair}
 use Rattle.stores.specs.Pairs.{pair, find, insert, erase}
 use Rattle.stores.specs.Places.{Places, holds, is_free, place_for, contents, distinct, no_room}
+use Rattle.stores.specs.Store.{change_limit, put_in, drop_in}
 use Rattle.stores.specs.Rows.{first, position_is_first, found_by, room_by, none_kept, value_kept, held_there, contents_replace, contents_add, contents_free, distinct_replace, distinct_add, distinct_free}
 
 module _ (k : ℕ) (ps : Places) where
@@ -52,6 +54,20 @@ module _ (k : ℕ) (ps : Places) (apart : distinct ps ≡ true) where
   freed i there =
       let own : first (holds k) ps ≡ Some i = sym (position_is_first (holds k) ps) ∙ there in
       (contents_free k ps i apart own, distinct_free k ps i apart own)
+
+-- a write as a change of an open trial, in a row of any capacity
+module _ (capacity k n : ℕ) (working : Places) (sized : length working ≡ capacity) (apart : distinct working ≡ true) (few : n < change_limit) where
+  pub put_placed : (v i : ℕ) → place_for k working ≡ Some i → put_in capacity k v (record { working = contents working; changes = n }) ≡ Ok (record { working = contents (set working i (Some (pair k v))); changes = n + 1 })
+  put_placed v i there =
+      let fits : true ≡ not (no_room k capacity (contents working)) = ap is_some (sym there) ∙ rw (← sized) (placed k working apart) in
+      let next = (written k working apart v i there).0 in
+      grind (arith, nat_tests)
+
+  pub drop_placed : (i : ℕ) → position (holds k) working ≡ Some i → drop_in k (record { working = contents working; changes = n }) ≡ Ok (record { working = contents (set working i None); changes = n + 1 })
+  drop_placed i there =
+      let found : true ≡ is_some (find k (contents working)) = ap is_some (sym there) ∙ held k working in
+      let next = (freed k working apart i there).0 in
+      grind (arith, nat_tests)
 
 -- a row whose places are all free
 pub contents_free_row : (n : ℕ) → contents (replicate n None) ≡ []

@@ -26,7 +26,7 @@ impl<const N: usize> Row<N> {
     pub(crate) fn find(&self, key: u64) -> Option<u32>
         ensures { result ≡ find key (contents self.now.places) }
     {
-        self.places[place_of(&self.places, key)?].map(|pair| pair.value)
+        value_of(&self.places, key)
     }
 
     // Sets the value under the pair's key and notes what stood in its place; nothing, if the key is
@@ -53,6 +53,13 @@ impl<const N: usize> Row<N> {
         let before = self.places[place].take();
         Some(Note { place, before })
     }
+}
+
+// The value under a key, in any stretch of places.
+pub(crate) fn value_of(places: &[Option<Pair>], key: u64) -> Option<u32>
+    ensures { result ≡ find key (contents places.now) }
+{
+    places[place_of(places, key)?].map(|pair| pair.value)
 }
 
 // The place that holds a key. This search and the two below each say that the place is in the row:

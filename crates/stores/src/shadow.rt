@@ -114,8 +114,10 @@ impl Store for ShadowStore {
     }
 
     fn commit(&mut self) -> Result<(), StoreRefusal> {
-        let draft = self.trial.take().ok_or(StoreRefusal::TrialClosed)?;
+        // Read where it stands: one that is taken out is copied twice.
+        let draft = self.trial.as_ref().ok_or(StoreRefusal::TrialClosed)?;
         self.committed = draft.pairs;
+        self.trial = None;
         Ok(())
     }
 

@@ -99,9 +99,11 @@ impl Store for UndoStore {
     }
 
     fn roll_back(&mut self) -> Result<(), StoreRefusal> {
-        let notes = self.trial.take().ok_or(StoreRefusal::TrialClosed)?;
+        // Read where they stand: taken out, they are copied first.
+        let notes = self.trial.as_ref().ok_or(StoreRefusal::TrialClosed)?;
         // That the keys are distinct afterwards is a fact of this store, so the places are handed out.
         rewind(&mut self.pairs.places, notes.as_slice());
+        self.trial = None;
         Ok(())
     }
 }
