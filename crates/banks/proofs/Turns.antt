@@ -1,5 +1,5 @@
 -- A store function on the stores in turn: what each turn adds.
-use Rattle.std.proofs.Common.{◌≡◌, ℕ, zero, suc, ◌+◌, ◌<◌, ◌≤◌, true, false, [], ◌∷◌, length, take, set, is_err, Some, None, Ok, Err, Option, sym, refl, ap, ◌∙◌, ap₂, add-one, add-zero, zero-add, arith}
+use Rattle.std.proofs.Common.{◌≡◌, ℕ, zero, suc, ◌+◌, ◌<◌, ◌≤◌, true, false, [], ◌∷◌, length, take, drop, set, is_err, Some, None, Ok, Err, Option, sym, refl, ap, ◌∙◌, ap₂, add-one, add-zero, zero-add, arith}
 use Rattle.std.proofs.lemmas.List.{take_all}
 use Rattle.std.specs.List.{slice_get}
 use Rattle.stores.specs.Pairs.{Pairs}
@@ -31,6 +31,9 @@ module _ {Answer : Type 0} (function : StoreModel → Step Answer) where
 pub record Begun (i : ℕ) (ms current : BankModel) : Type 0 where
   pub begun : current ≡ first_stores begin_step i ms
   pub none_open : open_from 0 (take i ms) ≡ None
+
+pub begun_none : (ms : BankModel) → Begun 0 ms ms
+begun_none ms = record { begun = refl; none_open = refl }
 
 -- a store's begin, by its trial: the way back, and what its answer tells of a list that it heads
 module _ (capacity : ℕ) (committed : Pairs) where
@@ -65,6 +68,15 @@ back k (suc i) (m ∷ ms) e =
     let closed = closed_first m.capacity m.committed m.trial k (take i ms) e in
     ap₂ (λ x xs. x ∷ xs) (begun_back m.capacity m.committed m.trial closed.0) (back (suc k) i ms closed.1)
 
+-- so the lowest store with a trial open is looked for behind them
+behind : (k i : ℕ) (ms : BankModel) → open_from k (take i ms) ≡ None → open_from k ms ≡ open_from (k + i) (drop i ms)
+behind k zero ms e = rw add-zero refl
+behind k (suc i) [] e = refl
+behind k (suc i) (m ∷ ms) e =
+    let closed = closed_first m.capacity m.committed m.trial k (take i ms) e in
+    let counted : suc k + i ≡ k + suc i = omega arith in
+    past_closed m.capacity m.committed m.trial k ms closed.0 ∙ behind (suc k) i ms closed.1 ∙ ap (λ n. open_from n (drop i ms)) counted
+
 refused : (k i : ℕ) (ms : BankModel) → i < length ms → open_from k (take i ms) ≡ None → is_err (at_store i begin_step (first_stores begin_step i ms)).answer ≡ true → (open_from k ms ≡ Some (k + i)) × ((at_store i begin_step (first_stores begin_step i ms)).next ≡ first_stores begin_step i ms)
 refused k i [] within none e = absurd (omega arith)
 refused k zero (m ∷ ms) within none e =
@@ -91,16 +103,28 @@ within_none i [] h e = omega arith
 within_none zero (m ∷ ms) h e = grind arith
 within_none (suc i) (m ∷ ms) h e = within_none i ms (omega arith) e
 
-told_open : (ms : BankModel) (i : ℕ) → open_from 0 ms ≡ Some i → (begun_answer ms ≡ Err (record { service = i })) × (begun_stores ms ≡ ms)
+pub told_open : (ms : BankModel) (i : ℕ) → open_from 0 ms ≡ Some i → (begun_answer ms ≡ Err (record { service = i })) × (begun_stores ms ≡ ms)
 told_open ms i e = (rw (e, begun_answer) refl, rw (e, begun_stores) refl)
 
 module _ (i : ℕ) (ms current : BankModel) (so_far : Begun i ms current) where
-  -- the store of this turn has a trial open: the bank that the first ones are rolled back in is the one at entry
+  -- what was begun leads back, and an open trial is looked for behind it
+  pub taken_back : first_stores roll_back_step i (first_stores begin_step i ms) ≡ ms
+  taken_back = back 0 i ms so_far.none_open
+
+  pub open_behind : open_from 0 ms ≡ open_from i (drop i ms)
+  open_behind = behind 0 i ms so_far.none_open ∙ ap (λ k. open_from k (drop i ms)) (zero-add i)
+
+  -- the store of this turn has a trial open
+  pub refused_here : i < length ms → is_err (at_store i begin_step current).answer ≡ true → (open_from 0 ms ≡ Some i) × ((at_store i begin_step current).next ≡ current)
+  refused_here within e =
+      let here = refused 0 i ms within so_far.none_open (rw so_far.begun at e) in (rw zero-add at here.0, rw so_far.begun here.1)
+
+  -- so the bank that the first ones are rolled back in is the one at entry
   pub begun_refused : (next : BankModel) → i < length ms → next ≡ (at_store i begin_step current).next → is_err (at_store i begin_step current).answer ≡ true → (begun_answer ms ≡ Err (record { service = i })) × (first_stores roll_back_step i next ≡ begun_stores ms)
   begun_refused next within step e =
-      let here = refused 0 i ms within so_far.none_open (rw so_far.begun at e) in
-      let told = told_open ms i (rw zero-add at here.0) in
-      (told.0, ap (first_stores roll_back_step i) (step ∙ rw so_far.begun here.1) ∙ back 0 i ms so_far.none_open ∙ sym told.1)
+      let here = refused_here within e in
+      let told = told_open ms i here.0 in
+      (told.0, ap (first_stores roll_back_step i) (step ∙ here.1 ∙ so_far.begun) ∙ taken_back ∙ sym told.1)
 
   pub begun_more : (next : BankModel) → next ≡ (at_store i begin_step current).next → is_err (at_store i begin_step current).answer ≡ false → Begun (i + 1) ms next
   begun_more next step e = record {
@@ -108,10 +132,10 @@ module _ (i : ℕ) (ms current : BankModel) (so_far : Begun i ms current) where
     none_open = rw add-one (accepted 0 i ms so_far.none_open (rw so_far.begun at e));
   }
 
-  pub begun_all : length ms ≤ i → begun_stores ms ≡ current
-  begun_all past =
-      let none : open_from 0 ms ≡ None = rw (take_all i ms past) at so_far.none_open in
-      rw (none, begun_stores) (sym (so_far.begun ∙ turn_all begin_step i ms past))
+pub told_none : (i : ℕ) (ms current : BankModel) → Begun i ms current → length ms ≤ i → (begun_answer ms ≡ Ok tt) × (begun_stores ms ≡ current)
+told_none i ms current so_far past =
+    let none : open_from 0 ms ≡ None = rw (take_all i ms past) at so_far.none_open in
+    (rw (none, begun_answer) refl, rw (none, begun_stores) (sym (so_far.begun ∙ turn_all begin_step i ms past)))
 
 closed_back : (k : ℕ) (ms : BankModel) → open_from k ms ≡ None → each_store roll_back_step (each_store begin_step ms) ≡ ms
 closed_back k [] e = refl

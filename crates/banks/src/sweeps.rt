@@ -5,13 +5,14 @@ ghost use Rattle.banks.specs.Sweeps.{ActsAs, each_store, first_stores, begun_ans
 
 use crate::interface::Bank;
 use crate::types::{BankRefusal, OpenTrial};
+use std::ops::Range;
 
 /// Commits the trials that are open.
 pub fn commit_all<B: Bank>(bank: &mut B)
     ensures { B.Bank.stores bank.new ≡ each_store commit_step (B.Bank.stores bank.old) }
 {
     let count = bank.count();
-    on_first(bank, count, B::commit);
+    on_first(bank, 0..count, B::commit);
 }
 
 /// Rolls back the trials that are open.
@@ -19,16 +20,22 @@ pub fn roll_back_all<B: Bank>(bank: &mut B)
     ensures { B.Bank.stores bank.new ≡ each_store roll_back_step (B.Bank.stores bank.old) }
 {
     let count = bank.count();
-    on_first(bank, count, B::roll_back);
+    on_first(bank, 0..count, B::roll_back);
 }
 
-// Acts on the first stores in turn, whatever each act answers.
-fn on_first<B: Bank, F: Fn(&mut B, u8) -> Result<(), BankRefusal>>(bank: &mut B, count: u8, act: F)
+// Acts on a range of stores in turn, whatever each act answers. The clause speaks of ranges that begin with
+// the first.
+fn on_first<B: Bank, F: Fn(&mut B, u8) -> Result<(), BankRefusal>>(
+    bank: &mut B,
+    services: Range<u8>,
+    act: F,
+)
     requires { F.IsAlwaysCallable act }
-    ensures { (step : StoreModel → Step (Unit {0})) → ActsAs B.Bank.stores (F.post act) count step → B.Bank.stores bank.new ≡ first_stores step count (B.Bank.stores bank.old) }
+    ensures { services.start ≡ 0 → (step : StoreModel → Step (Unit {0})) → ActsAs B.Bank.stores (F.post act) services.end step → B.Bank.stores bank.new ≡ first_stores step services.end (B.Bank.stores bank.old) }
 {
+    let Range { start, end } = services;
     // The number is the service itself.
-    for service in 0..count {
+    for service in start..end {
         let _ = act(bank, service);
     }
 }
@@ -43,7 +50,7 @@ pub fn begin_all<B: Bank>(bank: &mut B) -> Result<(), OpenTrial>
     // before it is told: so no `?`.
     for service in 0..bank.count() {
         if bank.begin(service).is_err() {
-            on_first(bank, service, B::roll_back);
+            on_first(bank, 0..service, B::roll_back);
             return Err(OpenTrial { service });
         }
     }

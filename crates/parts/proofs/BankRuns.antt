@@ -18,7 +18,7 @@ use Rattle.parts.specs.Looks.{looks_of}
 use Rattle.parts.specs.OnBank.{Operated, operated}
 use Rattle.parts.specs.Runs.{PartRun, BankRun, run_operation, run_from, run_part_at}
 use Rattle.parts.specs.Votes.{with_look}
-use Rattle.short_lists.specs.Lengths.{listed_whole}
+use Rattle.short_lists.specs.Lengths.{listed_few}
 use Rattle.parts.proofs.Kept.{take_capped}
 
 -- a store that an operation only reads is written back as it was
@@ -54,7 +54,7 @@ pub part_nowhere : (service : ℕ) (os : List Operation) (stores : BankModel) �
 part_nowhere service os stores past = grind (arith, slice_get_past)
 
 -- an operation gives at most one look number
-looks_few : (i : ℕ) (os : List Operation) (m : StoreModel) → length (run_from i os m).looks ≤ length os
+pub looks_few : (i : ℕ) (os : List Operation) (m : StoreModel) → length (run_from i os m).looks ≤ length os
 looks_few i [] m = omega arith
 looks_few i (o ∷ os) m = let rest = looks_few (suc i) os (run_operation o m).next in grind arith
 
@@ -69,10 +69,16 @@ noted : (looks rest : List ℕ) (look : Option ℕ) → take 8 (take 8 (looks ++
 noted looks rest None = rw append-nil (take_capped 8 looks rest)
 noted looks rest (Some number) = rw (take_capped, append_assoc) refl
 
-pub looks_whole : (l : Looks) → take 8 (looks_of l ++ []) ≡ looks_of l
-looks_whole l = rw append-nil (listed_whole l.numbers)
+pub looks_listed : (l : Looks) → length (looks_of l) ≤ 8
+looks_listed l = listed_few l.numbers
 
-module _ (service : ℕ) (os : List Operation) (i : ℕ) (stores : BankModel) (l : Looks) where
+whole : (looks : List ℕ) → length looks ≤ 8 → take 8 (looks ++ []) ≡ looks
+whole looks few = rw append-nil (take_all 8 looks few)
+
+pub looks_whole : (l : Looks) → take 8 (looks_of l ++ []) ≡ looks_of l
+looks_whole l = whole (looks_of l) (looks_listed l)
+
+module _ (service : ℕ) (os : List Operation) (i : ℕ) (stores : BankModel) (looks : List ℕ) where
   module _ (d : Operation) (within : i < length os) where
     abbrev done : Operated
     done = operated service (get_or os i d) stores
@@ -80,16 +86,16 @@ module _ (service : ℕ) (os : List Operation) (i : ℕ) (stores : BankModel) (l
     here : turns service i (drop i os) stores ≡ then_turns i done (turns service (i + 1) (drop (i + 1) os) done.next)
     here = rw (add-one, drop-cons os i d within) refl
 
-    pub turn_on : (look : Option ℕ) (now : BankModel) (after : List ℕ) → Ok look ≡ done.answer → now ≡ done.next → after ≡ take 8 (looks_of l ++ with_look look []) → behind (looks_of l) (turns service i (drop i os) stores) ≡ behind after (turns service (i + 1) (drop (i + 1) os) now)
+    pub turn_on : (look : Option ℕ) (now : BankModel) (after : List ℕ) → Ok look ≡ done.answer → now ≡ done.next → after ≡ take 8 (looks ++ with_look look []) → behind looks (turns service i (drop i os) stores) ≡ behind after (turns service (i + 1) (drop (i + 1) os) now)
     turn_on look now after answer next note =
         let turned = here in
-        let kept = noted (looks_of l) (turns service (i + 1) (drop (i + 1) os) now).looks look in
+        let kept = noted looks (turns service (i + 1) (drop (i + 1) os) now).looks look in
         grind arith
 
-    pub turn_failed : (cause : Cause) → Err cause ≡ done.answer → behind (looks_of l) (turns service i (drop i os) stores) ≡ record { vote = No i cause; looks = looks_of l; next = done.next }
-    turn_failed cause answer = let whole = looks_whole l in let turned = here in grind arith
+    pub turn_failed : (cause : Cause) → Err cause ≡ done.answer → length looks ≤ 8 → behind looks (turns service i (drop i os) stores) ≡ record { vote = No i cause; looks = looks; next = done.next }
+    turn_failed cause answer few = let all = whole looks few in let turned = here in grind arith
 
-  pub turn_ended : length os ≤ i → behind (looks_of l) (turns service i (drop i os) stores) ≡ record { vote = Yes; looks = looks_of l; next = stores }
-  turn_ended past = rw (drop_all i os past, looks_whole l) refl
+  pub turn_ended : length os ≤ i → length looks ≤ 8 → behind looks (turns service i (drop i os) stores) ≡ record { vote = Yes; looks = looks; next = stores }
+  turn_ended past few = rw (drop_all i os past, whole looks few) refl
 
-pub ruleset part_turns = (part_alike, part_nowhere, looks_whole, turn_on, turn_failed, turn_ended)
+pub ruleset part_turns = (part_alike, part_nowhere, looks_listed, looks_whole, turn_on, turn_failed, turn_ended)
