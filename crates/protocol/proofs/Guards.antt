@@ -69,26 +69,29 @@ AtPart s c p state Q = (client : Client) (parts : List OpenPart) (part : OpenPar
 
 -- a statement about outcomes that holds of every refusal of the site s: each call, where it is accepted
 module _ (s : Site) (P : Outcome → Type 0) (refused : (place : ℕ) (reason : Reason) → P (refuse_at place reason s)) where
-  by_client : (c : ℕ) (go : Client → Outcome) → ((client : Client) → slice_get s.clients c ≡ Some client → P (go client)) → P (on_client c s go)
+  pub by_client : (c : ℕ) (go : Client → Outcome) → ((client : Client) → slice_get s.clients c ≡ Some client → P (go client)) → P (on_client c s go)
   by_client c go each = by_option P (slice_get s.clients c) _ go (λ _. refused 0 _) each
 
-  by_open : (c : ℕ) (go : Client → List OpenPart → Outcome) → ((client : Client) (parts : List OpenPart) → slice_get s.clients c ≡ Some client → client.parts ≡ Some parts → P (go client parts)) → P (on_open c s go)
+  pub by_open : (c : ℕ) (go : Client → List OpenPart → Outcome) → ((client : Client) (parts : List OpenPart) → slice_get s.clients c ≡ Some client → client.parts ≡ Some parts → P (go client parts)) → P (on_open c s go)
   by_open c go each = by_client c _ (λ client e. by_option P client.parts _ (go client) (λ _. refused 0 _) (λ parts f. each client parts e f))
 
-  by_part : (c p : ℕ) (go : Client → List OpenPart → OpenPart → Outcome) → ((client : Client) (parts : List OpenPart) (part : OpenPart) → slice_get s.clients c ≡ Some client → client.parts ≡ Some parts → slice_get parts p ≡ Some part → P (go client parts part)) → P (on_part c p s go)
+  pub by_part : (c p : ℕ) (go : Client → List OpenPart → OpenPart → Outcome) → ((client : Client) (parts : List OpenPart) (part : OpenPart) → slice_get s.clients c ≡ Some client → client.parts ≡ Some parts → slice_get parts p ≡ Some part → P (go client parts part)) → P (on_part c p s go)
   by_part c p go each = by_open c _ (λ client parts e f. by_option P (slice_get parts p) _ (go client parts) (λ _. refused 0 _) (λ part g. each client parts part e f g))
 
-  by_waiting : (c p : ℕ) (go : Client → List OpenPart → OpenPart → Outcome) → AtPart s c p Waiting (λ client parts part. P (go client parts part)) → P (on_waiting c p s go)
+  pub by_waiting : (c p : ℕ) (go : Client → List OpenPart → OpenPart → Outcome) → AtPart s c p Waiting (λ client parts part. P (go client parts part)) → P (on_waiting c p s go)
   by_waiting c p go each =
       by_part c p _ (λ client parts part e f g.
       by_state P part.state _ _ _ _ (λ _. refused 0 _) (each client parts part e f g) (λ _. refused 0 _) (λ _. refused 0 _))
 
-  by_service : (v : ℕ) (d r g : Outcome) (h p : Hold → Outcome) → (slice_get s.services v ≡ Some down → P d) → (slice_get s.services v ≡ Some ready → P r) → (slice_get s.services v ≡ Some given → P g) → ((hold : Hold) → slice_get s.services v ≡ Some (holding hold) → P (h hold)) → ((hold : Hold) → slice_get s.services v ≡ Some (promised hold) → P (p hold)) → P (on_service v s (λ service. elim service [ down ↦ d | ready ↦ r | given ↦ g | holding hold ↦ h hold | promised hold ↦ p hold ]))
-  by_service v d r g h p pd pr pg ph pp =
-      by_option P (slice_get s.services v) _ _ (λ _. refused 0 _) (λ service e.
+  pub by_service : (v : ℕ) (go : Service → Outcome) → ((service : Service) → slice_get s.services v ≡ Some service → P (go service)) → P (on_service v s go)
+  by_service v go each = by_option P (slice_get s.services v) _ go (λ _. refused 0 _) each
+
+  by_phases : (v : ℕ) (d r g : Outcome) (h p : Hold → Outcome) → (slice_get s.services v ≡ Some down → P d) → (slice_get s.services v ≡ Some ready → P r) → (slice_get s.services v ≡ Some given → P g) → ((hold : Hold) → slice_get s.services v ≡ Some (holding hold) → P (h hold)) → ((hold : Hold) → slice_get s.services v ≡ Some (promised hold) → P (p hold)) → P (on_service v s (λ service. elim service [ down ↦ d | ready ↦ r | given ↦ g | holding hold ↦ h hold | promised hold ↦ p hold ]))
+  by_phases v d r g h p pd pr pg ph pp =
+      by_service v _ (λ service e.
       by_phase P service d r g h p (λ is. pd (e ∙ ap Some is)) (λ is. pr (e ∙ ap Some is)) (λ is. pg (e ∙ ap Some is)) (λ hold is. ph hold (e ∙ ap Some is)) (λ hold is. pp hold (e ∙ ap Some is)))
 
-  by_decision : (v n : ℕ) (go : Decision → Site → Outcome) → ((d : Decision) → nth_fitting decision_for v n s.decisions ≡ Some d → P (go d (with_decisions (without_nth decision_for v n s.decisions) s))) → P (take_decision v n s go)
+  pub by_decision : (v n : ℕ) (go : Decision → Site → Outcome) → ((d : Decision) → nth_fitting decision_for v n s.decisions ≡ Some d → P (go d (with_decisions (without_nth decision_for v n s.decisions) s))) → P (take_decision v n s go)
   by_decision v n go each = by_option P (nth_fitting decision_for v n s.decisions) _ _ (λ _. refused 0 _) each
 
   pub by_order : (c : ℕ) (script : List ℕ) → ((client : Client) (parts : List Part) → slice_get s.clients c ≡ Some client → client.parts ≡ None → read_script (length s.services) script ≡ Ok parts → P (accept (ordered client.number) (with_client c (record { number = client.number; parts = Some (map unsent parts) }) s))) → P (order c script s)
@@ -125,26 +128,26 @@ module _ (s : Site) (P : Outcome → Type 0) (refused : (place : ℕ) (reason : 
       (λ _ _. refused _ _))
 
   pub by_ready : (v : ℕ) → (slice_get s.services v ≡ Some down → P (accept done (with_service v ready s))) → P (make_ready v s)
-  by_ready v each = by_service v _ _ _ _ _ each (λ _. refused 0 _) (λ _. refused 0 _) (λ _ _. refused 0 _) (λ _ _. refused 0 _)
+  by_ready v each = by_phases v _ _ _ _ _ each (λ _. refused 0 _) (λ _. refused 0 _) (λ _ _. refused 0 _) (λ _ _. refused 0 _)
 
   pub by_down : (v : ℕ) → (slice_get s.services v ≡ Some ready → P (accept done (with_service v down s))) → P (make_down v s)
-  by_down v each = by_service v _ _ _ _ _ (λ _. refused 0 _) each (λ _. refused 0 _) (λ _ _. refused 0 _) (λ _ _. refused 0 _)
+  by_down v each = by_phases v _ _ _ _ _ (λ _. refused 0 _) each (λ _. refused 0 _) (λ _ _. refused 0 _) (λ _ _. refused 0 _)
 
   pub by_work : (v : ℕ) → ((r : Request) → slice_get s.services v ≡ Some given → nth_fitting request_for v 0 s.requests ≡ Some r → P (worked v r s)) → P (work v s)
   by_work v each =
-      by_service v _ _ _ _ _ (λ _. refused 0 _) (λ _. refused 0 _)
+      by_phases v _ _ _ _ _ (λ _. refused 0 _) (λ _. refused 0 _)
       (λ e. by_option P (nth_fitting request_for v 0 s.requests) _ _ (λ _. refused 0 _) (λ r taken. each r e taken))
       (λ _ _. refused 0 _) (λ _ _. refused 0 _)
 
   pub by_reply : (v : ℕ) (passed : Bool) → ((hold : Hold) → slice_get s.services v ≡ Some (holding hold) → P (accept done (with_service v (promised hold) (replied_with (held_slot v hold) (reply_looks hold.vote passed hold.looks) s)))) → P (reply v passed s)
-  by_reply v passed each = by_service v _ _ _ _ _ (λ _. refused 0 _) (λ _. refused 0 _) (λ _. refused 0 _) each (λ _ _. refused 0 _)
+  by_reply v passed each = by_phases v _ _ _ _ _ (λ _. refused 0 _) (λ _. refused 0 _) (λ _. refused 0 _) each (λ _ _. refused 0 _)
 
   pub by_hear : (v n : ℕ)
       → ((d : Decision) → nth_fitting decision_for v n s.decisions ≡ Some d → P (accept (heard discarded) (with_decisions (without_nth decision_for v n s.decisions) s)))
       → ((hold : Hold) (d : Decision) → nth_fitting decision_for v n s.decisions ≡ Some d → slice_get s.services v ≡ Some (promised hold) → is_for hold.transaction d ≡ true → P (ended v d.commits (with_decisions (without_nth decision_for v n s.decisions) s)))
       → P (hear v n s)
   by_hear v n drops obeys =
-      by_service v _ _ _ _ _ (λ _. dropped) (λ _. dropped) (λ _. refused 0 _) (λ _ _. refused 0 _)
+      by_phases v _ _ _ _ _ (λ _. dropped) (λ _. dropped) (λ _. refused 0 _) (λ _ _. refused 0 _)
       (λ hold e. by_decision v n (λ d t. cond (is_for hold.transaction d) (ended v d.commits t) (accept (heard discarded) t)) (λ d taken. cond_both (is_for hold.transaction d) _ _ P (obeys hold d taken e) (λ _. drops d taken)))
     where
       dropped : P (take_decision v n s (λ _ t. accept (heard discarded) t))

@@ -33,8 +33,11 @@ same_settled l m same off x = refl
 same_settled l m same on x = refl
 same_settled l m same (engaged t) x = ap (λ f. settled_by f x) (same t)
 
+-- stores settled alike
+pub settled_alike : (l m : Ledger) (d e : Engagement) (o : Option StoreModel) → ((x : StoreModel) → settled_pairs m e x ≡ settled_pairs l d x) → option_map (settled_store m e) o ≡ option_map (settled_store l d) o
+settled_alike l m d e o same = λ i. option_map (λ x. record { capacity = x.capacity; committed = same x i; trial = None }) o
+
 -- what the line settles in a store it settles still
 pub settled_still : (l m : Ledger) (start : BankModel) (line : List ℕ) → AllByRecursion (SameEntry l m) line → (v : ℕ) (e : Engagement) (o : Option StoreModel) → ((x : StoreModel) → settled_pairs m e x ≡ settled_pairs l e x) → slice_get (single_file l start line) v ≡ option_map (settled_store l e) o → slice_get (single_file m start line) v ≡ option_map (settled_store m e) o
 settled_still l m start line same v e o alike settled =
-    ap (λ stores. slice_get stores v) (same_file l m start line same) ∙ settled
-    ∙ (λ i. option_map (λ x. record { capacity = x.capacity; committed = sym (alike x) i; trial = None }) o)
+    ap (λ stores. slice_get stores v) (same_file l m start line same) ∙ settled ∙ sym (settled_alike l m e e o alike)
