@@ -2,7 +2,7 @@
 use Rattle.std.proofs.Common.{◌≡◌, Bool, List, [], ◌∷◌, length, is_some, Some, None, Option, refl, filter, arith}
 use Rattle.std.proofs.lemmas.Bool.Decides.{nat_tests}
 use Rattle.pools.specs.Pools.{held, fitting}
-use Rattle.pools.proofs.Found.{fits}
+use Rattle.pools.proofs.OnePlace.{fits}
 
 pub waiting : {M : Type 0} (ps : List (Option M)) → length (filter is_some ps) ≡ length (held ps)
 waiting [] = refl

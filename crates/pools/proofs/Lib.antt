@@ -1,6 +1,6 @@
 mod Chains
-mod Found
 pub mod Held
 pub mod Laws
+mod OnePlace
 mod Places
 mod Steps

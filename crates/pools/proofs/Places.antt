@@ -1,4 +1,4 @@
--- What is known of a free place, said of the messages that wait.
+-- What is known of one place, said of the messages that wait.
 use Rattle.std.proofs.Common.{◌≡◌, ℕ, ◌+◌, ◌-◌, ◌<◌, ◌≤◌, Bool, true, List, [], ◌∷◌, ◌++◌, length, get_or, take, drop, set, is_some, is_none, inl, inr, Some, None, Option, sym, refl, ap, ◌∙◌, append_assoc, add-one, arith, length-append, length-drop, take-append-drop, length-take}
 use borrow.Rule.Slice.PartMut.{put_mid}
 use Rattle.std.proofs.lemmas.List.{append-nil, get_or_read, set_split, drop_more, drop_all, take-set, drop-set}
@@ -9,7 +9,7 @@ use Rattle.std.proofs.lemmas.List.Sums.{passes_at_first}
 use Rattle.std.specs.List.{position, position_or_len}
 use Rattle.pools.specs.Places.{Stands, Vacant, Free}
 use Rattle.pools.proofs.Held.{held_append, held_le}
-use Rattle.pools.proofs.Found.{fits}
+use Rattle.pools.proofs.OnePlace.{fits}
 use Rattle.pools.proofs.Laws.{nth_at, without_at}
 
 -- a row is what stands before a place, the place, and what stands behind it

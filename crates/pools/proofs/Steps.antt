@@ -3,7 +3,7 @@ use Rattle.std.proofs.Common.{◌≡◌, ℕ, ◌+◌, ◌<◌, Bool, true, fals
 use Rattle.std.proofs.lemmas.List.Elements.{filter-append}
 use Rattle.std.proofs.lemmas.List.{take_more}
 use Rattle.pools.specs.Pools.{held, fitting}
-use Rattle.pools.proofs.Found.{fits}
+use Rattle.pools.proofs.OnePlace.{fits}
 use Rattle.pools.proofs.Held.{held_append}
 
 one_fitting : {M P : Type 0} (meets : M → P → Bool) (party : P) (p : Option M) → length (fitting meets party (held (p ∷ []))) ≡ cond (fits meets party p) 1 0

@@ -67,14 +67,12 @@ pub fn nth<M: Message>(places: &[Option<M>], party: &M::Party, n: usize) -> Opti
     places[place_of(places, party, n)?]
 }
 
-// The two counts below are sums: a sum goes over the row in one loop, where `filter` and `count` test each
-// place twice.
-
 /// How many messages wait.
 pub fn count<M: Message>(places: &[Option<M>]) -> usize
     ensures answer { result ≡ length (held places.now) }
     ensures within { result ≤ length places.now }
 {
+    // A sum: the `count` of a chain took some three times as long.
     places.iter().map(|place| place.is_some() as usize).sum()
 }
 

@@ -6,7 +6,7 @@ use Rattle.std.proofs.lemmas.Iterator.Consumers.{sum_by_from_yields_List, fits_b
 use Rattle.std.proofs.lemmas.List.Sums.{count_by-le-length, length-filter}
 use Rattle.pools.specs.Pools.{held, fitting}
 use Rattle.pools.proofs.Chains.{waiting_for}
-use Rattle.pools.proofs.Found.{fits}
+use Rattle.pools.proofs.OnePlace.{fits}
 use Rattle.pools.proofs.Laws.{fitting_le}
 use Rattle.pools.proofs.count_for.Goals as goal
 

@@ -5,7 +5,7 @@ use Rattle.std.proofs.lemmas.List.{take_all}
 use Rattle.std.proofs.lemmas.Option.{slice_get_past}
 use Rattle.std.proofs.lemmas.Bool.Decides.{nat_tests}
 use Rattle.pools.specs.Pools.{held, fitting}
-use Rattle.pools.proofs.Found.{fits}
+use Rattle.pools.proofs.OnePlace.{fits}
 use Rattle.pools.proofs.Laws.{without_none}
 use Rattle.pools.proofs.Places.{stands}
 use Rattle.pools.proofs.Steps.{fitting_more}
